@@ -11,7 +11,7 @@ use lib.ListN.{length, take, drop, getD}
 use Rattle.std.specs.Pieces.{Lacks, rejoined}
 use Rattle.std.proofs.shelf.Lists.{append-nil, take-append-drop, length-take-le, getD-take, getD-drop, getD-default, getD-past, take-all}
 use Rattle.std.proofs.shelf.Tests.{eq-eqb, ne-eqb, eqb-true, eqb-false, cases-lt}
-use Rattle.reader.specs.Cuts.{Cut, onto, pieces, unless-empty, ended, lines, Lined, none, last, more}
+use Rattle.reader.specs.Cuts.{Cut, onto, pieces, unless-empty, ended, lines, First-line, Lined, none, last, more}
 
 -- s cut at r, the place of its first b, or its length where it has none
 pub cut-at : (b r : ℕ) (s p q : List ℕ) → r ≤ length s → ((k : ℕ) → k < r → getD s k 0 ≡ b → ⊥) → (r < length s → getD s r 0 ≡ b)
@@ -92,16 +92,23 @@ lines-more p t h = ap ended (pieces-more 10 p t h) ∙ ended-more p (pieces 10 t
 lines-last : (p : List ℕ) → Lacks 10 p → 0 < length p → lines p ≡ p ∷ []
 lines-last p h k = ap ended (pieces-last 10 p h) ∙ unless-some p k
 
--- what a cut says of the lines
-pub line-last : (s p q : List ℕ) → Cut 10 s p q → length q ≡ 0 → 0 < length s → lines s ≡ p ∷ lines q
+-- what a cut says of the first line
+pub line-last : (s p q : List ℕ) → Cut 10 s p q → length q ≡ 0 → 0 < length s → First-line s p q
 line-last s p [] c h k =
     let e : s ≡ p = c .whole ∙ append-nil p in
-    ap lines e ∙ lines-last p (c .before) (subst (λ w. 0 < length w) e k)
+    record {
+      before = c .before;
+      whole = inr (e, refl);
+      order = ap lines e ∙ lines-last p (c .before) (subst (λ w. 0 < length w) e k);
+    }
 line-last s p (x ∷ q) c h k = absurd (omega arith)
 
-pub line-more : (s p q : List ℕ) → Cut 10 s p q → 1 ≤ length q → lines s ≡ p ∷ lines (take (length q - 1) (drop 1 q))
-line-more s p q c h =
-    ap ended (cut-more 10 s p q c h) ∙ ended-more p (pieces 10 (take (length q - 1) (drop 1 q))) (pieces-some 10 (take (length q - 1) (drop 1 q)))
+pub line-more : (s p q : List ℕ) → Cut 10 s p q → 1 ≤ length q → First-line s p (take (length q - 1) (drop 1 q))
+line-more s p [] c h = absurd (omega arith)
+line-more s p (x ∷ q) c h =
+    let t : take (length (x ∷ q) - 1) q ≡ q = take-all (length (x ∷ q) - 1) q (omega arith) in
+    let e : s ≡ p ++ (10 ∷ q) = c .whole ∙ ap (λ y. p ++ (y ∷ q)) (c .stops) in
+    subst (λ w. First-line s p w) (sym t) (record { before = c .before; whole = inl e; order = ap lines e ∙ lines-more p q (c .before) })
 
 -- no more lines than bytes
 few-more : (t : Bool) (c n : ℕ) (ps : List (List ℕ)) → 0 < length ps → length (ended ps) ≤ n → length (ended (cond t ([] ∷ ps) (onto c ps))) ≤ suc n

@@ -2,6 +2,7 @@
 use mathlib.Core.Path.{_≡_}
 use mathlib.Core.Bool.{cond}
 use mathlib.Core.List.{List, [], _∷_, _++_}
+use mathlib.Core.Logic.{_⊎_}
 use Prim.Native.Nat.{ℕ, _<_}
 use lib.Dec.{eqb}
 use lib.ListN.{length, getD}
@@ -40,6 +41,12 @@ ended (p ∷ (q ∷ ps)) = p ∷ ended (q ∷ ps)
 -- the lines of a text: what it is cut into at its line feeds, with nothing after the last of them
 abbrev pub lines : List ℕ → List (List ℕ)
 lines s = ended (pieces 10 s)
+
+-- l is the first line of s, and t what follows its line feed; where it has none, it is the last
+pub record First-line (s l t : List ℕ) : Type 0 where
+  pub before : Lacks 10 l
+  pub whole : (s ≡ l ++ (10 ∷ t)) ⊎ ((s ≡ l) × (t ≡ []))
+  pub order : lines s ≡ l ∷ lines t
 
 -- the law of lines: each ends with a line feed, which only the last may lack, and a text of no bytes has none
 pub data Lined : List ℕ → List (List ℕ) → Type 0 where

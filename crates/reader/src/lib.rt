@@ -9,7 +9,7 @@ ghost use Rattle.std.specs.declared.result.Result.the-variants.{Err};
 ghost use Rattle.refusal.specs.Answers.{seen, then, within};
 ghost use Rattle.refusal.specs.declared.LineFault.the-variants.{Field};
 ghost use Rattle.field.specs.Names.{name-at};
-ghost use Rattle.reader.specs.Cuts.{Cut, fields, lines};
+ghost use Rattle.reader.specs.Cuts.{Cut, First-line, fields};
 ghost use Rattle.reader.specs.Records.{kind-of, two-fields, part, part-at, meant, asked-by, record-of, Parts};
 use field::Letter;
 use field::read_letter;
@@ -79,7 +79,7 @@ pub fn cut_field(line: &[u8]) -> (&[u8], &[u8])
 
 // The first line of a text and what follows its line feed, or none where the text has no bytes.
 pub fn cut_line(text: &[u8]) -> Option<(&[u8], &[u8])>
-    ensures { λ r. ⌜ BySome r (lines (now (text .entry)) ≡ []) (λ p. lines (now (text .entry)) ≡ now (p .0) ∷ lines (now (p .1))) ⌝ }
+    ensures { λ r. ⌜ BySome r (now (text .entry) ≡ []) (λ p. First-line (now (text .entry)) (now (p .0)) (now (p .1))) ⌝ }
 {
     if text.is_empty() {
         return None;

@@ -1,13 +1,10 @@
 use borrow.Author.Needs.{needs}
-use mathlib.Core.Path.{ap}
-use native.Mathlib.Omega.{arith}
 use Rattle.std.proofs.shelf.Lists.{nil-from-length}
-use Rattle.reader.specs.Cuts.{lines}
 use Rattle.reader.proofs.Pieces.{line-last, line-more}
 use Rattle.reader.proofs.cut_line.Needs as need
 
 pub returns-then-is-empty : need.returns-then-is-empty
-returns-then-is-empty c = ap lines (nil-from-length (c .args .text .now) (search needs))
+returns-then-is-empty c = nil-from-length (c .args .text .now) (search needs)
 
 pub returns-in-empty : need.returns-in-empty
 returns-in-empty c = line-last (c .args .text .now) (c .cut .result .0 .now) (c .cut .result .1 .now) (c .cut .ensures) (search needs) (search needs)
