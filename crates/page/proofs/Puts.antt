@@ -9,11 +9,8 @@ use borrow.Rule.Slice.PartMut.{putMid}
 use Rattle.std.proofs.shelf.Lists.{set-split, drop-drop, take-at, drop-at, length-take-le}
 use Rattle.std.specs.Written.{decimal}
 use Rattle.std.proofs.shelf.Decimals.{decimal-digit, decimal-step}
-use Rattle.page.specs.Writing.{written, Put}
+use Rattle.page.specs.Writing.{written, Put, Front}
 use native.Mathlib.Nat.{add-zero}
-
-pub written-byte : (d : List ℕ) (i b : ℕ) → i < length d → set d i b ≡ written d i (b ∷ [])
-written-byte d i b h = rw (add-one i) (set-split d i b h)
 
 pub written-part : (d s ys : List ℕ) (i : ℕ) → ys ≡ s → putMid i ((i + length s) - i) d ys ≡ written d i s
 written-part d s ys i e =
@@ -64,12 +61,8 @@ put-then {d} {e} {f} {s} {t} {i} {j} {k} a b =
       room = a .room;
     }
 
--- nothing put
-pub put-none : {d : List ℕ} {i : ℕ} → i < 2 ^ 64 → length d < 2 ^ 63 → Put d i d i []
-put-none {d} {i} h r = record { next = omega arith; text = λ _. sym (ap (λ n. take i d ++ drop n d) (add-zero i) ∙ take-append-drop i d); long = refl; room = r }
-
 -- a text put at the front
-pub front-text : (d e s : List ℕ) (j : ℕ) → Put d 0 e j s → length s ≤ length d → j ≡ length s → (take j e ≡ s) × (drop j e ≡ drop j d)
+front-text : (d e s : List ℕ) (j : ℕ) → Put d 0 e j s → length s ≤ length d → j ≡ length s → (take j e ≡ s) × (drop j e ≡ drop j d)
 front-text d e s j w h n =
     let p : e ≡ s ++ drop (0 + length s) d = w .text (omega arith) in
     let q : length s ≡ j = omega arith in
@@ -91,13 +84,10 @@ number-more {d} {e} {f} {i} {j} {k} n h l a b = subst (λ x. Put d i f k x) (sym
 pub number-one : {d e : List ℕ} {i j : ℕ} (n : ℕ) → n < 10 → Put d i e j ((48 + n) ∷ []) → Put d i e j (decimal n)
 number-one {d} {e} {i} {j} n h w = subst (λ x. Put d i e j x) (sym (decimal-digit n h)) w
 
--- a text measured by putting it into other bytes, and then put into d: it was too long, or it stands at the front
-pub measured-short : {m m′ s : List ℕ} {n : ℕ} (d : List ℕ) → Put m 0 m′ n s → length d < n → length d < length s
-measured-short d p h = omega (arith, p .next)
-
-pub measured-front : {m m′ d e s : List ℕ} {n j : ℕ} → Put m 0 m′ n s → n ≤ length d → Put d 0 e j s → (j ≡ length s) × (take j e ≡ s) × (drop j e ≡ drop j d)
+-- a text measured by putting it into other bytes, and then put into d, stands at the front
+pub measured-front : {m m′ d e s : List ℕ} {n j : ℕ} → Put m 0 m′ n s → n ≤ length d → Put d 0 e j s → Front s j d e
 measured-front {d = d} {e = e} {s = s} {j = j} p h q =
     let fits : length s ≤ length d = omega (arith, p .next, q .room) in
-    let next : j ≡ length s = omega (arith, q .next, q .room) in
-    let f = front-text d e s j q fits next in
-    (next, f .0, f .1)
+    let long : j ≡ length s = omega (arith, q .next, q .room) in
+    let f = front-text d e s j q fits long in
+    record { long = long; fits = omega (arith, q .long); text = f .0; rest = f .1 }

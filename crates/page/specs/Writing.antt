@@ -24,7 +24,13 @@ pub record Put (d : List ℕ) (i : ℕ) (e : List ℕ) (j : ℕ) (s : List ℕ) 
 abbrev pub tabbed : ℕ → List ℕ
 tabbed n = 9 ∷ decimal n
 
--- the page p was written at the front of d, which left e: the answer is its length and the rest is as it was, or d is too short and is as it was
+-- the page p is the first n bytes of e, which d became, and the rest is as it was
+pub record Front (p : List ℕ) (n : ℕ) (d e : List ℕ) : Type 0 where
+  pub long : n ≡ length p
+  pub fits : n ≤ length e
+  pub text : take n e ≡ p
+  pub rest : drop n e ≡ drop n d
+
+-- the page p was written at the front of d, which left e, or d is too short and is as it was
 abbrev pub Written : List ℕ → List ℕ → List ℕ → Result ℕ PageFault → Type 0
-Written d e p r =
-    Cases r (λ n. (n ≡ length p) × (take n e ≡ p) × (drop n e ≡ drop n d)) (λ f. (f ≡ Short) × (length d < length p) × (e ≡ d))
+Written d e p r = Cases r (λ n. Front p n d e) (λ f. (f ≡ Short) × (length d < length p) × (e ≡ d))

@@ -6,6 +6,8 @@ ghost use mathlib.Core.Path.{_≡_};
 ghost use Rattle.refusal.specs.Table.{flaw-number, field-refusal, line-refusal, text-refusal, page-refusal};
 ghost use Rattle.refusal.specs.declared.LineFault.the-variants.{Field};
 ghost use Rattle.refusal.specs.declared.TextFault.the-variants.{Line};
+use std::error::Error;
+use std::fmt;
 
 // What is wrong with the content of one field.
 #[derive(Clone, Copy, PartialEq, Eq, Debug)]
@@ -142,3 +144,21 @@ impl PageFault {
         }
     }
 }
+
+pub impl fmt::Display for TextFault as TextFaultDisplay {
+    fn fmt<W: fmt::Write>(&self, f: &mut fmt::Formatter<W>) -> fmt::Result {
+        let number = self.refusal(0).number;
+        write!(f, "refused with {number}")
+    }
+}
+
+pub impl Error for TextFault as TextFaultError {}
+
+pub impl fmt::Display for PageFault as PageFaultDisplay {
+    fn fmt<W: fmt::Write>(&self, f: &mut fmt::Formatter<W>) -> fmt::Result {
+        let number = self.refusal().number;
+        write!(f, "refused with {number}")
+    }
+}
+
+pub impl Error for PageFault as PageFaultError {}

@@ -2,7 +2,7 @@
 use mathlib.Core.Path.{_≡_}
 use mathlib.Core.List.{List, [], _∷_}
 use Prim.Native.Nat.{ℕ, _+_, _<_}
-use lib.ListN.{length, take, drop}
+use lib.ListN.{length}
 use Rattle.std.specs.declared.option.Option.{Option}
 use Rattle.std.specs.declared.option.Option.the-variants.{Some, None}
 use Rattle.std.specs.declared.result.Result.{Result}
@@ -17,6 +17,7 @@ use Rattle.reader.specs.Records.{record-of}
 use Rattle.reader.specs.Texts.{lines-left, lines-read}
 use Rattle.reader.specs.declared.text.Text.{Text}
 use Rattle.page.specs.Refusals.{refusal-page}
+use Rattle.page.specs.Writing.{Front}
 
 -- the answer to a line: a good record is granted
 abbrev pub answer-to : List ℕ → Result (Unit {0}) TextFault
@@ -36,9 +37,7 @@ pub record Answered (t t′ : Text) (d e : List ℕ) (n : ℕ) : Type 0 where
   pub line : List ℕ
   pub order : lines-left t ≡ line ∷ lines-left t′
   pub count : lines-read t′ ≡ lines-read t + 1
-  pub long : n ≡ length (page-of (lines-read t′) line)
-  pub page : take n e ≡ page-of (lines-read t′) line
-  pub rest : drop n e ≡ drop n d
+  pub page : Front (page-of (lines-read t′) line) n d e
 
 -- the page of the next line has more bytes than d
 pub record Too-short (t : Text) (d : List ℕ) : Type 0 where
