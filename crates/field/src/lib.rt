@@ -37,7 +37,7 @@ pub enum Letter {
     B,
 }
 
-pub fn is_name_byte(byte: u8) -> bool
+fn is_name_byte(byte: u8) -> bool
     ensures { λ r. ⌜ r ≡ name-byte byte ⌝ }
 {
     matches!(byte, b'A'..=b'Z' | b'a'..=b'z' | b'0'..=b'9' | b'.' | b'_' | b'-')
@@ -91,10 +91,8 @@ fn digits_value(digits: &[u8]) -> Option<u64>
     Some(number)
 }
 
-// A number: 1 to 7 digits, the first no 0.
-pub fn read_number(bytes: &[u8], field: u8) -> Result<u64, FieldFault>
-    ensures value { λ r. ⌜ r ≡ number-at field (now (bytes .entry)) ⌝ }
-    ensures written { λ r. ⌜ Cases r (λ n. Writes (now (bytes .entry)) n) (λ _. (n : ℕ) → Writes (now (bytes .entry)) n → ⊥) ⌝ }
+fn numeral_value(bytes: &[u8], field: u8) -> Result<u64, FieldFault>
+    ensures { λ r. ⌜ r ≡ number-at field (now (bytes .entry)) ⌝ }
 {
     let fault = FieldFault {
         field,
@@ -104,6 +102,14 @@ pub fn read_number(bytes: &[u8], field: u8) -> Result<u64, FieldFault>
         return Err(fault);
     }
     digits_value(bytes).ok_or(fault)
+}
+
+// A number: 1 to 7 digits, the first no 0.
+pub fn read_number(bytes: &[u8], field: u8) -> Result<u64, FieldFault>
+    ensures value { λ r. ⌜ r ≡ number-at field (now (bytes .entry)) ⌝ }
+    ensures written { λ r. ⌜ Cases r (λ n. Writes (now (bytes .entry)) n) (λ _. (n : ℕ) → Writes (now (bytes .entry)) n → ⊥) ⌝ }
+{
+    numeral_value(bytes, field)
 }
 
 // The number itself where it is 1 to `most`.
@@ -120,7 +126,7 @@ fn check_range(number: u64, most: u64, field: u8) -> Result<u64, FieldFault>
 }
 
 // A time that a task may have, in ticks.
-pub fn check_time(time: u64, field: u8) -> Result<u64, FieldFault>
+fn check_time(time: u64, field: u8) -> Result<u64, FieldFault>
     ensures { λ r. ⌜ r ≡ ranged longest-time field time ⌝ }
 {
     check_range(time, LONGEST_TIME, field)

@@ -78,12 +78,6 @@ put-part d s ys i j n h r e =
     let t : putMid i (j - i) d ys ≡ written d i s = ap (λ m. putMid i (m - i) d ys) ij ∙ written-part d s ys i e in
     record { next = n; text = λ _. t; long = ap length t ∙ written-long d s i (omega arith); room = r }
 
-pub number-more : {d e f : List ℕ} {i j k : ℕ} (n : ℕ) → 10 ≤ n → n < 2 ^ 64 → Put d i e j (decimal (n / 10)) → Put e j f k ((48 + n % 10) ∷ []) → Put d i f k (decimal n)
-number-more {d} {e} {f} {i} {j} {k} n h l a b = subst (λ x. Put d i f k x) (sym (decimal-step n h l)) (put-then a b)
-
-pub number-one : {d e : List ℕ} {i j : ℕ} (n : ℕ) → n < 10 → Put d i e j ((48 + n) ∷ []) → Put d i e j (decimal n)
-number-one {d} {e} {i} {j} n h w = subst (λ x. Put d i e j x) (sym (decimal-digit n h)) w
-
 -- a text measured by putting it into other bytes, and then put into d, stands at the front
 pub measured-front : {m m′ d e s : List ℕ} {n j : ℕ} → Put m 0 m′ n s → n ≤ length d → Put d 0 e j s → Front s j d e
 measured-front {d = d} {e = e} {s = s} {j = j} p h q =

@@ -1,7 +1,7 @@
 -- A text that is read line by line.
 use mathlib.Core.Path.{_≡_}
-use mathlib.Core.List.{List}
-use Prim.Native.Nat.{ℕ, _-_, _≤_}
+use mathlib.Core.List.{List, _∷_}
+use Prim.Native.Nat.{ℕ, _+_, _-_, _≤_}
 use lib.ListN.{length, take}
 use denote.Ref.{now}
 use Rattle.reader.specs.Cuts.{lines, Lined}
@@ -21,3 +21,8 @@ pub record Opened (s : List ℕ) (t : Text) : Type 0 where
   pub all : lines-left t ≡ lines s
   pub law : Lined s (lines-left t)
   pub only : (ls : List (List ℕ)) → Lined s ls → ls ≡ lines-left t
+
+-- l is the next line of t, and t′ the text after it
+pub record Next-line (t : Text) (l : List ℕ) (t′ : Text) : Type 0 where
+  pub order : lines-left t ≡ l ∷ lines-left t′
+  pub count : lines-read t′ ≡ lines-read t + 1

@@ -23,7 +23,7 @@ use refusal::LineFromField;
 pub mod text;
 
 // What a record's letter asks for.
-#[derive(Clone, Copy, PartialEq, Eq, Debug)]
+#[derive(Clone, Copy)]
 enum Kind {
     Task,
     Need,
@@ -77,18 +77,26 @@ pub fn cut_field(line: &[u8]) -> (&[u8], &[u8])
     cut(line, b'\t')
 }
 
+// The first line of a text that has bytes, and what follows its line feed.
+fn split_line(text: &[u8]) -> (&[u8], &[u8])
+    requires { ⌜ 0 < length (now text) ⌝ }
+    ensures { λ r. ⌜ First-line (now (text .entry)) (now (r .0)) (now (r .1)) ⌝ }
+{
+    let (line, end) = cut(text, b'\n');
+    match end {
+        [] => (line, end),
+        [_, rest @ ..] => (line, rest),
+    }
+}
+
 // The first line of a text and what follows its line feed, or none where the text has no bytes.
 pub fn cut_line(text: &[u8]) -> Option<(&[u8], &[u8])>
-    ensures { λ r. ⌜ BySome r (now (text .entry) ≡ []) (λ p. First-line (now (text .entry)) (now (p .0)) (now (p .1))) ⌝ }
+    ensures { λ r. ⌜ BySome r (length (now (text .entry)) ≡ 0) (λ p. First-line (now (text .entry)) (now (p .0)) (now (p .1))) ⌝ }
 {
     if text.is_empty() {
         return None;
     }
-    let (line, end) = cut(text, b'\n');
-    match end {
-        [] => Some((line, end)),
-        [_, rest @ ..] => Some((line, rest)),
-    }
+    Some(split_line(text))
 }
 
 fn read_kind(letter: char) -> Result<Kind, LineFault>

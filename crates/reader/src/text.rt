@@ -1,12 +1,12 @@
 // A text, read line by line.
 ghost use mathlib.Core.Path.{_≡_};
-ghost use mathlib.Core.List.{[], _∷_};
-ghost use Prim.Native.Nat.{_+_, _<_};
+ghost use mathlib.Core.List.{[]};
+ghost use Prim.Native.Nat.{_<_, _≤_};
 ghost use lib.ListN.{length};
 ghost use Rattle.std.specs.Options.{Cases as BySome};
 ghost use Rattle.std.specs.Results.{Cases};
 ghost use Rattle.refusal.specs.declared.TextFault.the-variants.{TooLong};
-ghost use Rattle.reader.specs.Texts.{lines-left, lines-read, Opened};
+ghost use Rattle.reader.specs.Texts.{lines-left, lines-read, Opened, Next-line};
 use crate::cut_line;
 use refusal::TextFault;
 
@@ -20,16 +20,23 @@ pub struct Text<'a> {
 }
 
 impl<'a> Text<'a> {
+    fn start(bytes: &'a [u8]) -> Text<'a>
+        requires { ⌜ length (now bytes) ≤ 65536 ⌝ }
+        ensures { λ r. ⌜ Opened (now (bytes .entry)) r ⌝ }
+    {
+        Text {
+            rest: bytes,
+            line: 0,
+        }
+    }
+
     pub fn open(bytes: &'a [u8]) -> Result<Text<'a>, TextFault>
-        ensures { λ r. ⌜ Cases r (λ t. Opened (now (bytes .entry)) t) (λ f. (65536 < length (now (bytes .entry))) × (f ≡ TooLong)) ⌝ }
+        ensures { λ r. ⌜ Cases r (λ t. Opened (now (bytes .entry)) t) (λ f. (f ≡ TooLong) × (65536 < length (now (bytes .entry)))) ⌝ }
     {
         if bytes.len() > LONGEST_TEXT {
             return Err(TextFault::TooLong);
         }
-        Ok(Text {
-            rest: bytes,
-            line: 0,
-        })
+        Ok(Text::start(bytes))
     }
 
     // How many lines were read.
@@ -39,17 +46,30 @@ impl<'a> Text<'a> {
         self.line
     }
 
-    // The next line, or none after the last.
-    pub fn next_line(&mut self) -> Option<&'a [u8]>
-        ensures { λ r. ⌜ BySome r ((lines-left (now (self .entry)) ≡ []) × (now (self .exit) ≡ now (self .entry))) (λ l. (lines-left (now (self .entry)) ≡ now l ∷ lines-left (now (self .exit))) × (lines-read (now (self .exit)) ≡ lines-read (now (self .entry)) + 1)) ⌝ }
+    // The next line, and the text after it.
+    fn split(self) -> Option<(&'a [u8], Text<'a>)>
+        ensures { λ r. ⌜ BySome r (lines-left (self .entry) ≡ []) (λ p. Next-line (self .entry) (now (p .0)) (p .1)) ⌝ }
     {
         // A text has no more lines than bytes.
         if self.line >= LONGEST_TEXT {
             return None;
         }
         let (line, rest) = cut_line(self.rest)?;
-        self.rest = rest;
-        self.line += 1;
+        Some((
+            line,
+            Text {
+                rest,
+                line: self.line + 1,
+            },
+        ))
+    }
+
+    // The next line, or none after the last.
+    pub fn next_line(&mut self) -> Option<&'a [u8]>
+        ensures { λ r. ⌜ BySome r ((lines-left (now (self .entry)) ≡ []) × (now (self .exit) ≡ now (self .entry))) (λ l. Next-line (now (self .entry)) (now l) (now (self .exit))) ⌝ }
+    {
+        let (line, after) = self.split()?;
+        *self = after;
         Some(line)
     }
 }

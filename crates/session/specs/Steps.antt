@@ -14,7 +14,7 @@ use Rattle.refusal.specs.declared.PageFault.the-variants.{Short}
 use Rattle.refusal.specs.declared.TextFault.{TextFault}
 use Rattle.refusal.specs.declared.TextFault.the-variants.{Line}
 use Rattle.reader.specs.Records.{record-of}
-use Rattle.reader.specs.Texts.{lines-left, lines-read}
+use Rattle.reader.specs.Texts.{lines-left, lines-read, Next-line}
 use Rattle.reader.specs.declared.text.Text.{Text}
 use Rattle.page.specs.Refusals.{refusal-page}
 use Rattle.page.specs.Writing.{Front}
@@ -35,8 +35,7 @@ page-of n s = printed n (answer-to s)
 -- the next line of t was answered in the first n of the lent bytes d, which left e, and t′ goes on after it
 pub record Answered (t t′ : Text) (d e : List ℕ) (n : ℕ) : Type 0 where
   pub line : List ℕ
-  pub order : lines-left t ≡ line ∷ lines-left t′
-  pub count : lines-read t′ ≡ lines-read t + 1
+  pub next : Next-line t line t′
   pub page : Front (page-of (lines-read t′) line) n d e
 
 -- the page of the next line has more bytes than d

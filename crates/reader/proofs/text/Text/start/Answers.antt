@@ -1,16 +1,15 @@
-use borrow.Author.Needs.{needs}
 use mathlib.Core.Path.{_≡_, refl, sym, subst, _∙_}
 use lib.ListN.{take}
 use Rattle.reader.specs.Cuts.{lines, Lined}
 use Rattle.reader.proofs.Pieces.{left-all, lined-lines, lined-one}
-use Rattle.reader.proofs.text.Text.open.Needs as need
+use Rattle.reader.proofs.text.Text.start.Needs as need
 
 pub returns : need.returns
 returns c =
     let s = c .args .bytes .now in
-    let e : take 65536 (lines s) ≡ lines s = left-all s (c .if-bytes-gt-LONGEST-TEXT .left) in
+    let e : take 65536 (lines s) ≡ lines s = left-all s (c .pre) in
     record {
-      short = c .if-bytes-gt-LONGEST-TEXT .left;
+      short = c .pre;
       start = refl;
       all = e;
       law = subst (λ ls. Lined s ls) (sym e) (lined-lines s);
