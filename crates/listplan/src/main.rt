@@ -1,6 +1,6 @@
 // Reads a sheet text from standard input and prints the page of each line.
 use page::write_refusal;
-use reader::text::Text;
+use text::Text;
 use session::step;
 use std::error::AnyError;
 use std::io::BufWriter;

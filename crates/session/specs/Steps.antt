@@ -13,9 +13,9 @@ use Rattle.refusal.specs.declared.PageFault.{PageFault}
 use Rattle.refusal.specs.declared.PageFault.the-variants.{Short}
 use Rattle.refusal.specs.declared.TextFault.{TextFault}
 use Rattle.refusal.specs.declared.TextFault.the-variants.{Line}
-use Rattle.reader.specs.Records.{record-of}
-use Rattle.reader.specs.Texts.{lines-left, lines-read, Next-line}
-use Rattle.reader.specs.declared.text.Text.{Text}
+use Rattle.record.specs.Records.{record-of}
+use Rattle.text.specs.Texts.{lines-left, lines-read, Next-line}
+use Rattle.text.specs.declared.Text.{Text}
 use Rattle.page.specs.Refusals.{refusal-page}
 use Rattle.page.specs.Writing.{Front}
 

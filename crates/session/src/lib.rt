@@ -2,8 +2,8 @@
 ghost use mathlib.Core.Path.{_≡_};
 ghost use Rattle.session.specs.Steps.{answer-to, Stepped};
 use page::write_refusal;
-use reader::read_record;
-use reader::text::Text;
+use record::read_record;
+use text::Text;
 use refusal::PageFault;
 use refusal::TextFault;
 use refusal::TextFromLine;
@@ -27,7 +27,7 @@ pub fn step(text: &mut Text<'_>, out: &mut [u8]) -> Result<Option<usize>, PageFa
     };
     let count = match answer(line) {
         Ok(()) => 0,
-        Err(fault) => write_refusal(out, fault.refusal(next.line()))?,
+        Err(fault) => write_refusal(out, fault.refusal(next.lines_read()))?,
     };
     *text = next;
     Ok(Some(count))

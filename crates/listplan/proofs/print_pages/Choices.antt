@@ -1,6 +1,6 @@
 use mathlib.Core.Path.{_≡_}
 use lib.ListN.{length}
-use Rattle.reader.specs.Texts.{lines-left}
+use Rattle.text.specs.Texts.{lines-left}
 use Rattle.listplan.proofs.print_pages.Given as given
 
 abbrev pub Inv-loop-count : given.InvT-loop-count

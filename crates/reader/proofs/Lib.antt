@@ -1,3 +1,0 @@
-pub mod Pieces
-pub mod Heads
-pub mod Named
