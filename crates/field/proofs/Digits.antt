@@ -24,7 +24,7 @@ abbrev pub digit-of : ℕ → Option ℕ
 digit-of c = cond (asciiDigit c) (Some (digitValue c)) None
 
 more : (b : Bool) (n d v : ℕ) (cs : List ℕ) → Some d ≡ cond b (Some v) None
-  → number-after (n * 10 + d) cs ≡ cond (b && allDigits cs) (Some (valueAfter 10 (n * 10 + v) cs)) None
+    → number-after (n * 10 + d) cs ≡ cond (b && allDigits cs) (Some (valueAfter 10 (n * 10 + v) cs)) None
 more true n d v cs e = let z : v ≡ d = cc in ap (λ x. number-after (n * 10 + x) cs) (sym z)
 more false n d v cs e = let z : _≡_ {A = ℕ} 0 1 = cc in absurd (omega arith)
 

@@ -32,7 +32,7 @@ numeral-writes s e =
     let first : getD s 0 0 ≡ 48 → ⊥ = eqb-false _ _ (not-true _ (r .0)) in
     let few : value 10 s < 10 ^ 7 = value-short own s 7 (r .1) (leb-true _ _ (q .0)) in
     let text : decimal (value 10 s) ≡ s =
-      decimal-value own s (r .1) (leb-true _ _ (p .0)) (λ z. absurd (first z)) (omega (arith, few))
+    decimal-value own s (r .1) (leb-true _ _ (p .0)) (λ z. absurd (first z)) (omega (arith, few))
     in
     let none : value 10 s ≡ 0 → ⊥ = λ z. first (ap (λ w. getD w 0 0) (sym text ∙ ap decimal z ∙ decimal-digit 0 (omega arith))) in
     record { some = elim (cases-lt 0 (value 10 s)) [ inl h ↦ h | inr h ↦ absurd (none (omega arith)) ]; few = few; text = sym text }
@@ -43,15 +43,15 @@ writes-numeral s n w =
     let few : n < 2 ^ 64 = omega (arith, w .few) in
     ap numeral (w .text)
     ∙ and-from _ _ (le-leb _ _ (decimal-some n few))
-      (and-from _ _ (le-leb _ _ (length-decimal-le 7 n (omega arith) (w .few) few))
-       (and-from _ _ (not-from-false _ (ne-eqb _ _ (λ z. let f = first-decimal n (w .some) few in omega arith))) (digits-decimal own n few)))
+    (and-from _ _ (le-leb _ _ (length-decimal-le 7 n (omega arith) (w .few) few))
+    (and-from _ _ (not-from-false _ (ne-eqb _ _ (λ z. let f = first-decimal n (w .some) few in omega arith))) (digits-decimal own n few)))
 
 told : (s : List ℕ) (bad : FieldFault) (b : Bool) → numeral s ≡ b
-  → Cases (cond b (Ok (value 10 s)) (Err bad)) (Writes s) (λ _. (n : ℕ) → Writes s n → ⊥)
+    → Cases (cond b (Ok (value 10 s)) (Err bad)) (Writes s) (λ _. (n : ℕ) → Writes s n → ⊥)
 told s bad true e = numeral-writes s e
 told s bad false e = λ n w. both-ways (numeral s) e (writes-numeral s n w)
 
 pub as-written : (f : ℕ) (s : List ℕ) (r : Result ℕ FieldFault) → r ≡ number-at f s
-  → Cases r (Writes s) (λ _. (n : ℕ) → Writes s n → ⊥)
+    → Cases r (Writes s) (λ _. (n : ℕ) → Writes s n → ⊥)
 as-written f s r h =
     subst (λ x. Cases x (Writes s) (λ _. (n : ℕ) → Writes s n → ⊥)) (sym h) (told s (record { field = f; flaw = Number }) (numeral s) refl)

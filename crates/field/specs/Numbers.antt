@@ -14,6 +14,9 @@ use Rattle.refusal.specs.Answers.{then}
 use Rattle.refusal.specs.declared.FieldFault.{FieldFault}
 use Rattle.refusal.specs.declared.Flaw.the-variants.{Number, Range}
 
+abbrev pub most-digits : ℕ
+most-digits = 7
+
 abbrev pub longest-time : ℕ
 longest-time = 1000000
 
@@ -22,7 +25,7 @@ most-workers = 64
 
 -- 1 to 7 digits, the first no 0
 abbrev pub numeral : List ℕ → Bool
-numeral s = leb 1 (length s) && (leb (length s) 7 && (not (eqb (getD s 0 0) 48) && allDigits s))
+numeral s = leb 1 (length s) && (leb (length s) most-digits && (not (eqb (getD s 0 0) 48) && allDigits s))
 
 -- the number that a field writes
 abbrev pub number-at : ℕ → List ℕ → Result ℕ FieldFault
@@ -31,7 +34,7 @@ number-at f s = cond (numeral s) (Ok (value 10 s)) (Err (record { field = f; fla
 -- s is n as it is printed, and n is 1 to 9,999,999
 pub record Writes (s : List ℕ) (n : ℕ) : Type 0 where
   pub some : 1 ≤ n
-  pub few : n < 10 ^ 7
+  pub few : n < 10 ^ most-digits
   pub text : s ≡ decimal n
 
 -- n where it is 1 to m

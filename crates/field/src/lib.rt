@@ -14,7 +14,7 @@ ghost use Rattle.std.specs.shelf.Text.{allDigits};
 ghost use Rattle.std.specs.declared.option.Option.the-variants.{Some, None};
 ghost use Rattle.refusal.specs.Answers.{seen};
 ghost use Rattle.field.specs.Names.{name-byte, name-bytes, name-at};
-ghost use Rattle.field.specs.Numbers.{number-at, Writes, ranged, time-at, workers-at, longest-time};
+ghost use Rattle.field.specs.Numbers.{most-digits, longest-time, number-at, Writes, ranged, time-at, workers-at};
 ghost use Rattle.field.specs.Letters.{letter-at};
 use refusal::FieldFault;
 use refusal::Flaw;
@@ -78,7 +78,7 @@ fn digit(byte: u8) -> Option<u8>
 
 // The number that a few digits write, or none where a byte is no digit.
 fn digits_value(digits: &[u8]) -> Option<u64>
-    requires { ⌜ length (now digits) ≤ 7 ⌝ }
+    requires { ⌜ length (now digits) ≤ most-digits ⌝ }
     ensures { λ r. ⌜ r ≡ cond (allDigits (now (digits .entry))) (Some (value 10 (now (digits .entry)))) None ⌝ }
 {
     let mut number: u64 = 0;

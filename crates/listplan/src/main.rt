@@ -1,12 +1,12 @@
 // Reads a sheet text from standard input and prints the page of each line.
 use page::write_refusal;
-use text::Text;
+use refusal::PageFaultError;
 use session::step;
 use std::error::AnyError;
 use std::io::BufWriter;
 use std::io::Read;
 use std::io::Write;
-use refusal::PageFaultError;
+use text::Text;
 
 // One byte more than a text may have, so that a longer one is told without reading it all.
 const MOST_READ: u64 = 65_537;

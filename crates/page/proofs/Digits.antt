@@ -47,9 +47,9 @@ module _ {number left start : ℕ} {ds : List ℕ} (w : To-write number left sta
         fits = omega (arith, w .fits);
         room = omega (arith, w .room, more);
         text =
-          ap (λ v. decimal (left / 10) ++ v) (one-more start x ds (some-room w) (omega (arith, w .long, w .within)))
-          ∙ sym (append-assoc (decimal (left / 10)) (x ∷ []) (drop start ds))
-          ∙ ap (λ v. v ++ drop start ds) (sym step) ∙ w .text;
+            ap (λ v. decimal (left / 10) ++ v) (one-more start x ds (some-room w) (omega (arith, w .long, w .within)))
+            ∙ sym (append-assoc (decimal (left / 10)) (x ∷ []) (drop start ds))
+            ∙ ap (λ v. v ++ drop start ds) (sym step) ∙ w .text;
       }
 
   pub write-all : left < 10 → drop (start - 1) (set ds (start - 1) (48 + left)) ≡ decimal number

@@ -36,11 +36,11 @@ module _ (d s t : List ℕ) (i : ℕ) (h : i ≤ length d) where
   written-then =
       let tk : take (i + length s) (written d i s) ≡ front = ap (take (i + length s)) split-here ∙ take-at front (drop (i + length s) d) (i + length s) front-long in
       let dr : drop (i + length s + length t) (written d i s) ≡ drop (i + length (s ++ t)) d =
-        sym (drop-drop (length t) (i + length s) (written d i s))
-        ∙ ap (λ w. drop (length t) (drop (i + length s) w)) split-here
-        ∙ ap (drop (length t)) (drop-at front (drop (i + length s) d) (i + length s) front-long)
-        ∙ drop-drop (length t) (i + length s) d
-        ∙ ap (λ n. drop n d) (let l = length-append s t in omega arith)
+      sym (drop-drop (length t) (i + length s) (written d i s))
+      ∙ ap (λ w. drop (length t) (drop (i + length s) w)) split-here
+      ∙ ap (drop (length t)) (drop-at front (drop (i + length s) d) (i + length s) front-long)
+      ∙ drop-drop (length t) (i + length s) d
+      ∙ ap (λ n. drop n d) (let l = length-append s t in omega arith)
       in
       ap (λ w. w ++ (t ++ drop (i + length s + length t) (written d i s))) tk
       ∙ ap (λ w. front ++ (t ++ w)) dr
@@ -54,9 +54,9 @@ put-then {d} {e} {f} {s} {t} {i} {j} {k} a b =
     record {
       next = omega (arith, a .next, b .next, a .room, l);
       text = λ fits.
-        let ij : j ≡ i + length s = omega (arith, a .next, a .room) in
-        let fits-t : j + length t ≤ length e = omega (arith, a .long, l) in
-        b .text fits-t ∙ ap (λ w. written w j t) (a .text (omega arith)) ∙ ap (λ m. written (written d i s) m t) ij ∙ written-then d s t i (omega arith);
+          let ij : j ≡ i + length s = omega (arith, a .next, a .room) in
+          let fits-t : j + length t ≤ length e = omega (arith, a .long, l) in
+          b .text fits-t ∙ ap (λ w. written w j t) (a .text (omega arith)) ∙ ap (λ m. written (written d i s) m t) ij ∙ written-then d s t i (omega arith);
       long = b .long ∙ a .long;
       room = a .room;
     }

@@ -14,21 +14,17 @@ use Rattle.refusal.specs.Answers.{then, within}
 use Rattle.refusal.specs.declared.LineFault.{LineFault}
 use Rattle.refusal.specs.declared.LineFault.the-variants.{Letter, FieldCount, Field}
 use Rattle.text.specs.Cuts.{Cut, onto, pieces, fields}
-use Rattle.record.specs.Records.{Asked, kind-of, two-fields, asked-by, record-by, record-of}
+use Rattle.record.specs.Records.{Asked, kind-of, two-fields, fields-by, record-by, record-of}
 use Rattle.record.specs.declared.Kind.{Kind}
 use Rattle.text.proofs.Pieces.{cut-last, cut-more, pieces-some}
 
--- what the two fields of a record of the kind k are read as
-abbrev pub rest-by : List (List ℕ) → Kind → Result Asked LineFault
-rest-by fs k = then (two-fields fs) (λ f. within Field (asked-by k (f .0) (f .1)))
-
-letter : (t : Bool) (c : ℕ) (ps : List (List ℕ)) → eqb c 9 ≡ t → record-by (cond t ([] ∷ ([] ∷ ps)) ((c ∷ []) ∷ ps)) ≡ then (kind-of c) (rest-by ps)
+letter : (t : Bool) (c : ℕ) (ps : List (List ℕ)) → eqb c 9 ≡ t → record-by (cond t ([] ∷ ([] ∷ ps)) ((c ∷ []) ∷ ps)) ≡ then (kind-of c) (λ k. fields-by k ps)
 letter true c ps e = rw (eqb-true c 9 e)
 letter false c ps e = refl
 
 -- a letter, a tab and the rest
 pub head-good : (s : List ℕ) (r : Result Kind LineFault) → 2 ≤ length s → getD s 1 0 ≡ 9 → r ≡ kind-of (getD s 0 0)
-  → record-of s ≡ then r (rest-by (fields (take (length s - 2) (drop 2 s))))
+    → record-of s ≡ then r (λ k. fields-by k (fields (take (length s - 2) (drop 2 s))))
 head-good [] r h t e = absurd (omega arith)
 head-good (c ∷ []) r h t e = absurd (omega arith)
 head-good (c ∷ (d ∷ s)) r h t e =
@@ -71,4 +67,4 @@ module _ (s p q p′ q′ : List ℕ) (c : Cut 9 s p q) (h : 1 ≤ length q) (c�
   two-long z =
       sym
       (ap two-fields (cut-more 9 s p q c h ∙ ap (λ w. p ∷ w) (cut-more 9 _ p′ q′ c′ z))
-       ∙ three p p′ (fields (take (length q′ - 1) (drop 1 q′))) (pieces-some 9 (take (length q′ - 1) (drop 1 q′))))
+      ∙ three p p′ (fields (take (length q′ - 1) (drop 1 q′))) (pieces-some 9 (take (length q′ - 1) (drop 1 q′))))

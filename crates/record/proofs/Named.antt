@@ -17,11 +17,10 @@ use Rattle.field.specs.Letters.{letter-at}
 use Rattle.field.specs.Names.{good-name}
 use Rattle.field.specs.Numbers.{time-at, workers-at}
 use Rattle.text.specs.Cuts.{fields}
-use Rattle.record.specs.Records.{Named, Asked, enters, needs, drops, retimes, plans, kind-of, part-at, first-name, second-name, two-names, name-and-time, asked-by, record-by, record-of, Part-of, Parts}
+use Rattle.record.specs.Records.{Named, Asked, enters, needs, drops, retimes, plans, kind-of, part-at, first-name, second-name, two-names, name-and-time, asked-by, fields-by, record-by, record-of, Part-of, Parts}
 use Rattle.record.specs.declared.Kind.{Kind}
-use Rattle.record.specs.declared.Kind.the-variants.{Task, Need, Release, Retime, Plan}
+use Rattle.record.specs.declared.Kind.the-variants.{Task, Need, Drop, Retime, Plan}
 use Rattle.text.proofs.Pieces.{rejoined-pieces}
-use Rattle.record.proofs.Heads.{rest-by}
 
 never : {T E : Type 0} {x : T} {e : E} → Ok x ≡ Err e → ⊥
 never h = let z : _≡_ {A = ℕ} 0 1 = cc in omega arith
@@ -36,7 +35,7 @@ within-ok f (Ok x) y h = let e : y ≡ x = cc in ap (λ z. Ok z) e
 within-ok f (Err e) y h = absurd (never h)
 
 named : (b : Bool) (i : ℕ) (s : List ℕ) (e : FieldFault) (n : Named) → Ok n ≡ then (cond b (Ok s) (Err e)) (λ m. Ok (record { name = m; at = i }))
-  → record { name = s; at = i } ≡ n
+    → record { name = s; at = i } ≡ n
 named true i s e n h = cc
 named false i s e n h = absurd (never h)
 
@@ -62,7 +61,7 @@ module _ (c : ℕ) (a b : List ℕ) where
 
   -- a record made of two names, or of a name and a number
   names : (k : Named × Named → Asked) (m : Asked) → Ok m ≡ then (two-names a b) (λ p. Ok (k p))
-    → (p : Named × Named) × (m ≡ k p) × Part-of line (p .0) × Part-of line (p .1)
+      → (p : Named × Named) × (m ≡ k p) × Part-of line (p .0) × Part-of line (p .1)
   names k m h =
       let r = then-ok (two-names a b) _ m h in
       let p = then-ok (first-name a) _ (r .0) (r .1) in
@@ -71,7 +70,7 @@ module _ (c : ℕ) (a b : List ℕ) where
       ((p .0, q .0), e, first-part (p .0) (p .1), second-part (q .0) (q .1))
 
   timed : (k : Named × ℕ → Asked) (m : Asked) → Ok m ≡ then (name-and-time a b) (λ p. Ok (k p))
-    → (p : Named × ℕ) × (m ≡ k p) × Part-of line (p .0)
+      → (p : Named × ℕ) × (m ≡ k p) × Part-of line (p .0)
   timed k m h =
       let r = then-ok (name-and-time a b) _ m h in
       let p = then-ok (first-name a) _ (r .0) (r .1) in
@@ -82,7 +81,7 @@ module _ (c : ℕ) (a b : List ℕ) where
   by-kind : (k : Kind) (m : Asked) → Ok m ≡ asked-by k a b → Parts line m
   by-kind Task m h = let p = timed (λ p. enters (p .0) (p .1)) m h in subst (Parts line) (sym (p .1)) (p .2)
   by-kind Need m h = let p = names (λ p. needs (p .0) (p .1)) m h in subst (Parts line) (sym (p .1)) (p .2, p .3)
-  by-kind Release m h = let p = names (λ p. drops (p .0) (p .1)) m h in subst (Parts line) (sym (p .1)) (p .2, p .3)
+  by-kind Drop m h = let p = names (λ p. drops (p .0) (p .1)) m h in subst (Parts line) (sym (p .1)) (p .2, p .3)
   by-kind Retime m h = let p = timed (λ p. retimes (p .0) (p .1)) m h in subst (Parts line) (sym (p .1)) (p .2)
   by-kind Plan m h =
       let p = then-ok (workers-at 2 a) _ m h in
@@ -90,7 +89,7 @@ module _ (c : ℕ) (a b : List ℕ) where
       let e : m ≡ plans (p .0) (q .0) = cc in
       subst (Parts line) (sym e) tt
 
-by-fields : (c : ℕ) (fs : List (List ℕ)) (k : Kind) (m : Asked) → Ok m ≡ rest-by fs k → Parts (rejoined 9 ((c ∷ []) ∷ fs)) m
+by-fields : (c : ℕ) (fs : List (List ℕ)) (k : Kind) (m : Asked) → Ok m ≡ fields-by k fs → Parts (rejoined 9 ((c ∷ []) ∷ fs)) m
 unfolding line
 by-fields c [] k m h = absurd (never h)
 by-fields c (a ∷ []) k m h = absurd (never h)
@@ -100,7 +99,7 @@ by-fields c (a ∷ (b ∷ (x ∷ xs))) k m h = absurd (never h)
 by-letter : (ps : List (List ℕ)) (m : Asked) → Ok m ≡ record-by ps → Parts (rejoined 9 ps) m
 by-letter [] m h = absurd (never h)
 by-letter ([] ∷ ps) m h = absurd (never h)
-by-letter ((c ∷ []) ∷ ps) m h = let p = then-ok (kind-of c) (rest-by ps) m h in by-fields c ps (p .0) m (p .2)
+by-letter ((c ∷ []) ∷ ps) m h = let p = then-ok (kind-of c) (λ k. fields-by k ps) m h in by-fields c ps (p .0) m (p .2)
 by-letter ((c ∷ (d ∷ l)) ∷ ps) m h = absurd (never h)
 
 pub parts-of : (s : List ℕ) (m : Asked) → Ok m ≡ record-of s → Parts s m

@@ -18,7 +18,7 @@ use Rattle.field.specs.Numbers.{time-at, workers-at}
 use Rattle.field.specs.declared.Letter.{Letter as Ranking}
 use Rattle.text.specs.Cuts.{fields}
 use Rattle.record.specs.declared.Kind.{Kind}
-use Rattle.record.specs.declared.Kind.the-variants.{Task, Need, Release, Retime, Plan}
+use Rattle.record.specs.declared.Kind.the-variants.{Task, Need, Drop, Retime, Plan}
 use Rattle.record.specs.declared.Part.{Part}
 use Rattle.record.specs.declared.Record.{Record}
 use Rattle.record.specs.declared.Record.the-variants as records
@@ -50,7 +50,7 @@ meant (records.P w l) = plans w l
 abbrev pub kind-of : ℕ → Result Kind LineFault
 kind-of c =
     cond (eqb c 84) (Ok Task)
-    (cond (eqb c 78) (Ok Need) (cond (eqb c 68) (Ok Release) (cond (eqb c 82) (Ok Retime) (cond (eqb c 80) (Ok Plan) (Err Letter)))))
+    (cond (eqb c 78) (Ok Need) (cond (eqb c 68) (Ok Drop) (cond (eqb c 82) (Ok Retime) (cond (eqb c 80) (Ok Plan) (Err Letter)))))
 
 -- the first field is one letter
 abbrev pub kind-at : List ℕ → Result Kind LineFault
@@ -85,14 +85,17 @@ name-and-time a b = then (first-name a) (λ n. then (time-at 3 b) (λ t. Ok (n, 
 abbrev pub asked-by : Kind → List ℕ → List ℕ → Result Asked FieldFault
 asked-by Task a b = then (name-and-time a b) (λ p. Ok (enters (p .0) (p .1)))
 asked-by Need a b = then (two-names a b) (λ p. Ok (needs (p .0) (p .1)))
-asked-by Release a b = then (two-names a b) (λ p. Ok (drops (p .0) (p .1)))
+asked-by Drop a b = then (two-names a b) (λ p. Ok (drops (p .0) (p .1)))
 asked-by Retime a b = then (name-and-time a b) (λ p. Ok (retimes (p .0) (p .1)))
 asked-by Plan a b = then (workers-at 2 a) (λ w. then (letter-at 3 b) (λ l. Ok (plans w l)))
 
--- the letter first, then the number of fields, then the fields
+-- the letter comes first, then the number of fields, then the fields
+abbrev pub fields-by : Kind → List (List ℕ) → Result Asked LineFault
+fields-by k fs = then (two-fields fs) (λ f. within Field (asked-by k (f .0) (f .1)))
+
 abbrev pub record-by : List (List ℕ) → Result Asked LineFault
 record-by [] = Err Letter
-record-by (l ∷ fs) = then (kind-at l) (λ k. then (two-fields fs) (λ f. within Field (asked-by k (f .0) (f .1))))
+record-by (l ∷ fs) = then (kind-at l) (λ k. fields-by k fs)
 
 abbrev pub record-of : List ℕ → Result Asked LineFault
 record-of s = record-by (fields s)

@@ -2,10 +2,9 @@
 ghost use mathlib.Core.Path.{_≡_};
 ghost use Rattle.std.specs.Results.{Cases};
 ghost use Rattle.std.specs.declared.result.Result.the-variants.{Err};
-ghost use Rattle.refusal.specs.Answers.{seen, then, within};
-ghost use Rattle.refusal.specs.declared.LineFault.the-variants.{Field};
+ghost use Rattle.refusal.specs.Answers.{seen};
 ghost use Rattle.text.specs.Cuts.{fields};
-ghost use Rattle.record.specs.Records.{kind-of, two-fields, part, part-at, two-names, name-and-time, meant, asked-by, record-of, Parts};
+ghost use Rattle.record.specs.Records.{kind-of, two-fields, part, part-at, two-names, name-and-time, meant, asked-by, fields-by, record-of, Parts};
 use field::Letter;
 use field::read_letter;
 use field::read_name;
@@ -21,7 +20,7 @@ use text::cut_field;
 enum Kind {
     Task,
     Need,
-    Release,
+    Drop,
     Retime,
     Plan,
 }
@@ -49,7 +48,7 @@ fn read_kind(letter: char) -> Result<Kind, LineFault>
     match letter {
         'T' => Ok(Kind::Task),
         'N' => Ok(Kind::Need),
-        'D' => Ok(Kind::Release),
+        'D' => Ok(Kind::Drop),
         'R' => Ok(Kind::Retime),
         'P' => Ok(Kind::Plan),
         _ => Err(LineFault::Letter),
@@ -58,7 +57,7 @@ fn read_kind(letter: char) -> Result<Kind, LineFault>
 
 // The kind that the first field names, and the fields after it.
 fn read_head(line: &[u8]) -> Result<(Kind, &[u8]), LineFault>
-    ensures { λ r. ⌜ Cases r (λ p. record-of (now (line .entry)) ≡ then (two-fields (fields (now (p .1)))) (λ f. within Field (asked-by (p .0) (f .0) (f .1)))) (λ e. record-of (now (line .entry)) ≡ Err e) ⌝ }
+    ensures { λ r. ⌜ Cases r (λ p. record-of (now (line .entry)) ≡ fields-by (p .0) (fields (now (p .1)))) (λ e. record-of (now (line .entry)) ≡ Err e) ⌝ }
 {
     match line {
         [letter, b'\t', rest @ ..] => Ok((read_kind(char::from(*letter))?, rest)),
@@ -124,7 +123,7 @@ fn read_fields<'a>(kind: Kind, first: &'a [u8], second: &'a [u8]) -> Result<Reco
             let (task, need) = read_two_names(first, second)?;
             Ok(Record::N { task, need })
         }
-        Kind::Release => {
+        Kind::Drop => {
             let (task, need) = read_two_names(first, second)?;
             Ok(Record::D { task, need })
         }

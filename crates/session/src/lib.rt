@@ -3,10 +3,10 @@ ghost use mathlib.Core.Path.{_≡_};
 ghost use Rattle.session.specs.Steps.{answer-to, Stepped};
 use page::write_refusal;
 use record::read_record;
-use text::Text;
 use refusal::PageFault;
 use refusal::TextFault;
 use refusal::TextFromLine;
+use text::Text;
 
 // What a line is answered.
 fn answer(line: &[u8]) -> Result<(), TextFault>

@@ -15,15 +15,15 @@ use Rattle.text.specs.Cuts.{Cut, onto, pieces, unless-empty, ended, lines, Fir
 
 -- s cut at r, the place of its first b, or its length where it has none
 pub cut-at : (b r : ℕ) (s p q : List ℕ) → r ≤ length s → ((k : ℕ) → k < r → getD s k 0 ≡ b → ⊥) → (r < length s → getD s r 0 ≡ b)
-  → p ≡ take r s → q ≡ drop r s → Cut b s p q
+    → p ≡ take r s → q ≡ drop r s → Cut b s p q
 cut-at b r s p q h clear found front back =
     let long : length p ≡ r = ap length front ∙ length-take-le r s h in
     record {
       whole = sym (take-append-drop r s) ∙ ap (λ w. w ++ drop r s) (sym front) ∙ ap (λ w. p ++ w) (sym back);
       before = λ k l e. let kr : k < r = omega arith in clear k kr (sym (getD-take r s k 0 kr) ∙ ap (λ w. getD w k 0) (sym front) ∙ e);
       stops =
-        ap (λ w. getD w 0 b) back ∙ getD-drop r s 0 b ∙ ap (λ n. getD s n b) (add-zero r)
-        ∙ elim (cases-lt r (length s)) [ inl l ↦ getD-default s r b 0 l ∙ found l | inr l ↦ getD-past s r b l ];
+          ap (λ w. getD w 0 b) back ∙ getD-drop r s 0 b ∙ ap (λ n. getD s n b) (add-zero r)
+          ∙ elim (cases-lt r (length s)) [ inl l ↦ getD-default s r b 0 l ∙ found l | inr l ↦ getD-past s r b l ];
     }
 
 lacks-first : (b c : ℕ) (p : List ℕ) → Lacks b (c ∷ p) → eqb c b ≡ false
@@ -67,7 +67,7 @@ pieces-some b (c ∷ s) = some-more (eqb c b) c (pieces b s) (pieces-some b s)
 
 -- pieces put together again
 rejoined-more : (t : Bool) (b c : ℕ) (ps : List (List ℕ)) (s : List ℕ) → eqb c b ≡ t → 0 < length ps → rejoined b ps ≡ s
-  → rejoined b (cond t ([] ∷ ps) (onto c ps)) ≡ c ∷ s
+    → rejoined b (cond t ([] ∷ ps) (onto c ps)) ≡ c ∷ s
 rejoined-more true b c [] s e h r = absurd (omega arith)
 rejoined-more true b c (p ∷ ps) s e h r = ap (λ w. b ∷ w) r ∙ ap (λ x. x ∷ s) (sym (eqb-true c b e))
 rejoined-more false b c [] s e h r = absurd (omega arith)

@@ -7,16 +7,19 @@ use denote.Ref.{now}
 use Rattle.text.specs.Cuts.{lines, Lined}
 use Rattle.text.specs.declared.Text.{Text}
 
+abbrev pub longest-text : ℕ
+longest-text = 65536
+
 abbrev pub lines-read : Text → ℕ
 lines-read t = t .«lines_read»
 
--- at most 65,536 lines are read of a text, which has no more
+-- of a text no more lines are read than it may have bytes, and it has no more
 abbrev pub lines-left : Text → List (List ℕ)
-lines-left t = take (65536 - t .«lines_read») (lines (now (t .rest)))
+lines-left t = take (longest-text - t .«lines_read») (lines (now (t .rest)))
 
 -- the text of the bytes s, just opened: no line is read, and what is left are its lines, by their law and no others
 pub record Opened (s : List ℕ) (t : Text) : Type 0 where
-  pub short : length s ≤ 65536
+  pub short : length s ≤ longest-text
   pub start : lines-read t ≡ 0
   pub all : lines-left t ≡ lines s
   pub law : Lined s (lines-left t)

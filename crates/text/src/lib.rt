@@ -7,7 +7,7 @@ ghost use Rattle.std.specs.Options.{Cases as BySome};
 ghost use Rattle.std.specs.Results.{Cases};
 ghost use Rattle.refusal.specs.declared.TextFault.the-variants.{TooLong};
 ghost use Rattle.text.specs.Cuts.{Cut, First-line};
-ghost use Rattle.text.specs.Texts.{lines-left, lines-read, Opened, Next-line};
+ghost use Rattle.text.specs.Texts.{longest-text, lines-left, lines-read, Opened, Next-line};
 use refusal::TextFault;
 
 const LONGEST_TEXT: usize = 65_536;
@@ -71,7 +71,7 @@ pub struct Text<'a> {
 
 impl<'a> Text<'a> {
     fn start(bytes: &'a [u8]) -> Text<'a>
-        requires { ⌜ length (now bytes) ≤ 65536 ⌝ }
+        requires { ⌜ length (now bytes) ≤ longest-text ⌝ }
         ensures { λ r. ⌜ Opened (now (bytes .entry)) r ⌝ }
     {
         Text {
@@ -81,7 +81,7 @@ impl<'a> Text<'a> {
     }
 
     pub fn open(bytes: &'a [u8]) -> Result<Text<'a>, TextFault>
-        ensures { λ r. ⌜ Cases r (λ t. Opened (now (bytes .entry)) t) (λ f. (f ≡ TooLong) × (65536 < length (now (bytes .entry)))) ⌝ }
+        ensures { λ r. ⌜ Cases r (λ t. Opened (now (bytes .entry)) t) (λ f. (f ≡ TooLong) × (longest-text < length (now (bytes .entry)))) ⌝ }
     {
         if bytes.len() > LONGEST_TEXT {
             return Err(TextFault::TooLong);

@@ -21,6 +21,6 @@ returns-in-Continue-read-kind-2 c = head-good (c .args .line .now) (Ok (c .in-Co
 pub returns-in-rest : need.returns-in-rest
 returns-in-rest c =
     elim (c .in-rest .came) [
-      in-rest·by·then-line-lt1 w ↦ head-none (c .args .line .now) (search needs)
+      | in-rest·by·then-line-lt1 w ↦ head-none (c .args .line .now) (search needs)
       | in-rest·by·else-line-lt1·else-line-lt2·in-rest· w ↦ head-long (c .args .line .now) (search needs) (search needs)
     ]
