@@ -1,5 +1,5 @@
 -- Names: 1 to 24 bytes out of A-Z, a-z, 0-9, full stop, underscore and hyphen.
-use mathlib.Core.Bool.{Bool, true, false, cond, _&&_, _||_}
+use mathlib.Core.Bool.{Bool, true, cond, _&&_, _||_}
 use mathlib.Core.List.{List, [], _∷_}
 use Prim.Native.Nat.{ℕ}
 use lib.Dec.{eqb, leb}

@@ -1,16 +1,12 @@
 -- One text written after another.
-use mathlib.Core.Path.{_≡_, refl, sym, ap, subst, _∙_}
-use mathlib.Core.List.{List, [], _∷_, _++_, append-assoc}
-use Prim.Native.Nat.{ℕ, zero, suc, _+_, _-_, _<_, _≤_, _^_, _/_, _%_, min}
+use mathlib.Core.Path.{_≡_, sym, ap, _∙_}
+use mathlib.Core.List.{List, _++_, append-assoc}
+use Prim.Native.Nat.{ℕ, _+_, _-_, _<_, _≤_, _^_, min}
 use native.Mathlib.Omega.{arith}
-use native.Mathlib.Numerals.{add-one}
-use lib.ListN.{length, take, drop, set, length-append, take-append-drop, length-take, length-drop}
+use lib.ListN.{length, take, drop, length-append, length-take, length-drop}
 use borrow.Rule.Slice.PartMut.{putMid}
-use Rattle.std.proofs.shelf.Lists.{set-split, drop-drop, take-at, drop-at, length-take-le}
-use Rattle.std.specs.Written.{decimal}
-use Rattle.std.proofs.shelf.Decimals.{decimal-digit, decimal-step}
+use Rattle.std.proofs.shelf.Lists.{drop-drop, take-at, drop-at, length-take-le}
 use Rattle.page.specs.Writing.{written, Put, Front}
-use native.Mathlib.Nat.{add-zero}
 
 pub written-part : (d s ys : List ℕ) (i : ℕ) → ys ≡ s → putMid i ((i + length s) - i) d ys ≡ written d i s
 written-part d s ys i e =

@@ -4,7 +4,7 @@
 // measured by putting it into no bytes at all.
 ghost use mathlib.Core.Path.{_≡_};
 ghost use mathlib.Core.List.{[], _∷_};
-ghost use Prim.Native.Nat.{ℕ, _≤_};
+ghost use Prim.Native.Nat.{_≤_};
 ghost use lib.ListN.{drop};
 ghost use Rattle.std.specs.Written.{decimal};
 ghost use Rattle.page.specs.Refusals.{refusal-page};

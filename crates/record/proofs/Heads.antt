@@ -1,8 +1,8 @@
 -- A line by its first bytes, and its two fields.
 use mathlib.Core.Path.{_≡_, refl, sym, ap, _∙_}
 use mathlib.Core.Bool.{Bool, true, false, cond}
-use mathlib.Core.List.{List, [], _∷_, _++_}
-use Prim.Native.Nat.{ℕ, _+_, _-_, _<_, _≤_}
+use mathlib.Core.List.{List, [], _∷_}
+use Prim.Native.Nat.{ℕ, _-_, _<_, _≤_}
 use native.Mathlib.Omega.{arith}
 use lib.Dec.{eqb}
 use lib.ListN.{length, take, drop, getD}
@@ -10,11 +10,11 @@ use Rattle.std.proofs.shelf.Lists.{take-all}
 use Rattle.std.proofs.shelf.Tests.{eq-eqb, ne-eqb, eqb-true}
 use Rattle.std.specs.declared.result.Result.{Result}
 use Rattle.std.specs.declared.result.Result.the-variants.{Ok, Err}
-use Rattle.refusal.specs.Answers.{then, within}
+use Rattle.refusal.specs.Answers.{then}
 use Rattle.refusal.specs.declared.LineFault.{LineFault}
-use Rattle.refusal.specs.declared.LineFault.the-variants.{Letter, FieldCount, Field}
-use Rattle.text.specs.Cuts.{Cut, onto, pieces, fields}
-use Rattle.record.specs.Records.{Asked, kind-of, two-fields, fields-by, record-by, record-of}
+use Rattle.refusal.specs.declared.LineFault.the-variants.{Letter, FieldCount}
+use Rattle.text.specs.Cuts.{Cut, onto, fields}
+use Rattle.record.specs.Records.{kind-of, two-fields, fields-by, record-by, record-of}
 use Rattle.record.specs.declared.Kind.{Kind}
 use Rattle.text.proofs.Pieces.{cut-last, cut-more, pieces-some}
 

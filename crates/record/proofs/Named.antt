@@ -11,13 +11,12 @@ use Rattle.std.specs.declared.result.Result.{Result}
 use Rattle.std.specs.declared.result.Result.the-variants.{Ok, Err}
 use Rattle.refusal.specs.Answers.{then, within}
 use Rattle.refusal.specs.declared.FieldFault.{FieldFault}
-use Rattle.refusal.specs.declared.LineFault.{LineFault}
 use Rattle.refusal.specs.declared.LineFault.the-variants.{Field}
 use Rattle.field.specs.Letters.{letter-at}
 use Rattle.field.specs.Names.{good-name}
 use Rattle.field.specs.Numbers.{time-at, workers-at}
 use Rattle.text.specs.Cuts.{fields}
-use Rattle.record.specs.Records.{Named, Asked, enters, needs, drops, retimes, plans, kind-of, part-at, first-name, second-name, two-names, name-and-time, asked-by, fields-by, record-by, record-of, Part-of, Parts}
+use Rattle.record.specs.Records.{Named, Asked, enters, needs, drops, retimes, plans, kind-of, first-name, second-name, two-names, name-and-time, asked-by, fields-by, record-by, record-of, Part-of, Parts}
 use Rattle.record.specs.declared.Kind.{Kind}
 use Rattle.record.specs.declared.Kind.the-variants.{Task, Need, Drop, Retime, Plan}
 use Rattle.text.proofs.Pieces.{rejoined-pieces}

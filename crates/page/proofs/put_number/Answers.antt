@@ -1,6 +1,5 @@
 use mathlib.Core.Path.{subst, _∙_}
 use native.Mathlib.Omega.{arith}
-use lib.ListN.{drop}
 use Rattle.std.proofs.shelf.Parts.{between-to-end}
 use Rattle.page.specs.Writing.{Put}
 use Rattle.page.proofs.put_number.Needs as need
