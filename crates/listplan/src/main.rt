@@ -11,6 +11,7 @@ use text::Text;
 // One byte more than a text may have, so that a longer one is told without reading it all.
 const MOST_READ: u64 = 65_537;
 
+// More than any page has.
 const PAGE_BYTES: usize = 65_536;
 
 // The pages of all lines, or the one page of a text that cannot be opened.

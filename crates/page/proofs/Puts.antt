@@ -8,7 +8,7 @@ use borrow.Rule.Slice.PartMut.{putMid}
 use Rattle.std.proofs.shelf.Lists.{drop-drop, take-at, drop-at, length-take-le}
 use Rattle.page.specs.Writing.{written, Put, Front}
 
-pub written-part : (d s ys : List ℕ) (i : ℕ) → ys ≡ s → putMid i ((i + length s) - i) d ys ≡ written d i s
+written-part : (d s ys : List ℕ) (i : ℕ) → ys ≡ s → putMid i ((i + length s) - i) d ys ≡ written d i s
 written-part d s ys i e =
     let k : (i + length s) - i ≡ length s = omega arith in
     ap (λ (m : ℕ). putMid i m d ys) k
@@ -27,7 +27,7 @@ module _ (d s t : List ℕ) (i : ℕ) (h : i ≤ length d) where
   unfolding front
   split-here = sym (append-assoc (take i d) s (drop (i + length s) d))
 
-  pub written-then : written (written d i s) (i + length s) t ≡ written d i (s ++ t)
+  written-then : written (written d i s) (i + length s) t ≡ written d i (s ++ t)
   unfolding front
   written-then =
       let tk : take (i + length s) (written d i s) ≡ front = ap (take (i + length s)) split-here ∙ take-at front (drop (i + length s) d) (i + length s) front-long in

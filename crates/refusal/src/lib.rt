@@ -3,6 +3,8 @@
 // A fault is wrapped whole into the next one out, by `From`: a field's into its line's, a line's
 // into its text's. The table of numbers is `specs/Table.antt`.
 ghost use mathlib.Core.Path.{_≡_};
+ghost use lib.Chars.{codes};
+ghost use Rattle.std.specs.declared.option.Option.the-variants.{Some};
 ghost use Rattle.refusal.specs.Table.{flaw-number, field-refusal, line-refusal, text-refusal, page-refusal};
 ghost use Rattle.refusal.specs.declared.LineFault.the-variants.{Field};
 ghost use Rattle.refusal.specs.declared.TextFault.the-variants.{Line};
@@ -145,19 +147,13 @@ impl PageFault {
     }
 }
 
-pub impl fmt::Display for TextFault as TextFaultDisplay {
-    fn fmt<W: fmt::Write>(&self, f: &mut fmt::Formatter<W>) -> fmt::Result {
-        let number = self.refusal(0).number;
-        write!(f, "refused with {number}")
-    }
-}
-
-pub impl Error for TextFault as TextFaultError {}
-
 pub impl fmt::Display for PageFault as PageFaultDisplay {
+    ghost shown = { λ _. Some (codes "the page has more bytes than are lent") };
+
     fn fmt<W: fmt::Write>(&self, f: &mut fmt::Formatter<W>) -> fmt::Result {
-        let number = self.refusal().number;
-        write!(f, "refused with {number}")
+        match self {
+            PageFault::Short => write!(f, "the page has more bytes than are lent"),
+        }
     }
 }
 

@@ -36,11 +36,11 @@ lacks-one-more : (b c : ℕ) (p : List ℕ) → (c ≡ b → ⊥) → Lacks b p 
 lacks-one-more b c p h t zero l = h
 lacks-one-more b c p h t (suc k) l = t k (omega arith)
 
-pub pieces-last : (b : ℕ) (p : List ℕ) → Lacks b p → pieces b p ≡ p ∷ []
+pieces-last : (b : ℕ) (p : List ℕ) → Lacks b p → pieces b p ≡ p ∷ []
 pieces-last b [] h = refl
 pieces-last b (c ∷ p) h = rw (lacks-first b c p h) (ap (onto c) (pieces-last b p (lacks-rest b c p h)))
 
-pub pieces-more : (b : ℕ) (p t : List ℕ) → Lacks b p → pieces b (p ++ (b ∷ t)) ≡ p ∷ pieces b t
+pieces-more : (b : ℕ) (p t : List ℕ) → Lacks b p → pieces b (p ++ (b ∷ t)) ≡ p ∷ pieces b t
 pieces-more b [] t h = rw (eq-eqb b b refl)
 pieces-more b (c ∷ p) t h = rw (lacks-first b c p h) (ap (onto c) (pieces-more b p t (lacks-rest b c p h)))
 
@@ -117,7 +117,7 @@ few-more false c n [] h l = absurd (omega arith)
 few-more false c n (p ∷ []) h l = omega arith
 few-more false c n (p ∷ (q ∷ ps)) h l = omega arith
 
-pub few-lines : (s : List ℕ) → length (lines s) ≤ length s
+few-lines : (s : List ℕ) → length (lines s) ≤ length s
 few-lines [] = omega arith
 few-lines (c ∷ s) = few-more (eqb c 10) c (length s) (pieces 10 s) (pieces-some 10 s) (few-lines s)
 
@@ -143,14 +143,14 @@ lined-some (c ∷ s) = lined-step c (eqb c 10) refl (lined-some s .1)
 pub lined-lines : (s : List ℕ) → Lined s (lines s)
 lined-lines s = let r = lined-some s in subst (λ ls. Lined s ls) (lined-one (r .1)) (r .1)
 
--- no more than 65,536 lines are read: none is left, one more is read, all are left
-pub left-none : (n : ℕ) (ls : List (List ℕ)) → ls ≡ [] → take (65536 - n) ls ≡ []
-left-none n ls e = ap (take (65536 - n)) e ∙ take-all (65536 - n) [] (omega arith)
+-- at most m lines are read, n of them so far: none is left, one more is read, all are left
+pub left-none : (m n : ℕ) (ls : List (List ℕ)) → ls ≡ [] → take (m - n) ls ≡ []
+left-none m n ls e = ap (take (m - n)) e ∙ take-all (m - n) [] (omega arith)
 
-pub left-more : (n : ℕ) (l : List ℕ) (ls ms : List (List ℕ)) → n < 65536 → ls ≡ l ∷ ms → take (65536 - n) ls ≡ l ∷ take (65536 - (n + 1)) ms
-left-more n l ls ms h e =
-    let k : 65536 - n ≡ suc (65536 - (n + 1)) = omega arith in
-    ap (take (65536 - n)) e ∙ ap (λ j. take j (l ∷ ms)) k
+pub left-more : (m n : ℕ) (l : List ℕ) (ls ms : List (List ℕ)) → n < m → ls ≡ l ∷ ms → take (m - n) ls ≡ l ∷ take (m - (n + 1)) ms
+left-more m n l ls ms h e =
+    let k : m - n ≡ suc (m - (n + 1)) = omega arith in
+    ap (take (m - n)) e ∙ ap (λ j. take j (l ∷ ms)) k
 
-pub left-all : (s : List ℕ) → length s ≤ 65536 → take 65536 (lines s) ≡ lines s
-left-all s h = take-all 65536 (lines s) (let f = few-lines s in omega arith)
+pub left-all : (m : ℕ) (s : List ℕ) → length s ≤ m → take m (lines s) ≡ lines s
+left-all m s h = take-all m (lines s) (let f = few-lines s in omega arith)
