@@ -1,9 +1,10 @@
 // A need store that is never full: a bit for every pair, in 512 rows of 512.
+#![tactic(auto)]
+
 ghost use Rattle.std.specs.Prelude.{◌≡◌, ◌*◌, ◌<◌, false, not};
 ghost use Rattle.needs.specs.Pairs.{limit, no_pairs, with_pair, Mirrors, count};
 ghost use Rattle.bit_rows.specs.Rows.{held};
-ghost use borrow.Author.Rules;
-ghost use Rattle.std.proofs.Common.{arith};
+ghost use Rattle.std.proofs.Common.{rules};
 
 use grid::Grid;
 use needs::{LIMIT, NeedStore};
@@ -47,9 +48,9 @@ impl NeedStore for BitRows {
 
     ghost places = { λ s. limit * limit };
 
-    ghost within = { unfold held in Prim.search Needs.needs };
+    ghost within = { unfold held in Prim.search rules };
 
-    ghost some_place = { first_of (Prim.search Needs.needs, Prim.grind (arith, Self.row.coded.inj)) };
+    ghost some_place = { Prim.search rules };
 
     fn insert(&mut self, a: usize, b: usize) -> Result<(), StoreFault> {
         if a >= LIMIT || b >= LIMIT {

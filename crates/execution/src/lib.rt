@@ -1,4 +1,6 @@
 // A text carried out upon a sheet step by step, one line and its page at a time.
+#![tactic(auto)]
+
 ghost use Rattle.std.specs.Prelude.{◌≡◌, OnErr};
 ghost use Rattle.execution.specs.Steps.{answer_to, after_line, Stepped};
 ghost use Rattle.sheet.specs.Sheets.{book_of};
@@ -12,9 +14,9 @@ use text::Text;
 
 // Carries a line out; planning is only read.
 fn carry_out<S: NeedStore>(sheet: &mut Sheet<S>, line: &[u8]) -> Result<(), TextFault>
-    ensures answer { result ≡ answer_to (book_of has places sheet.old) line.now }
-    ensures book { book_of has places sheet.new ≡ after_line (book_of has places sheet.old) line.now }
-    ensures kept { OnErr result (book_of has places sheet.new ≡ book_of has places sheet.old) }
+    ensures answer { result ≡ answer_to (book_of S.has S.places sheet.old) line.now }
+    ensures book { book_of S.has S.places sheet.new ≡ after_line (book_of S.has S.places sheet.old) line.now }
+    ensures kept { OnErr result (book_of S.has S.places sheet.new ≡ book_of S.has S.places sheet.old) }
 {
     match read_record(line)? {
         Record::T { name, time } => sheet.enter(name.bytes, time)?,
@@ -34,7 +36,7 @@ pub fn step<S: NeedStore>(
     sheet: &mut Sheet<S>,
     out: &mut [u8],
 ) -> Result<Option<usize>, PageFault>
-    ensures { Stepped text.old text.new (book_of has places sheet.old) (book_of has places sheet.new) out.old out.new result }
+    ensures { Stepped text.old text.new (book_of S.has S.places sheet.old) (book_of S.has S.places sheet.new) out.old out.new result }
 {
     let mut next = *text;
     let Some(line) = next.next_line() else {

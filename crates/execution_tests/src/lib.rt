@@ -1,5 +1,7 @@
 // Texts carried out upon a sheet, by example. The expected values are reckoned from docs/TEXT.md and
 // docs/REFUSALS.md.
+#![tactic(auto)]
+
 #[cfg(test)]
 mod tests {
     use execution::step;

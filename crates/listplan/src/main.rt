@@ -1,4 +1,6 @@
 // Reads a sheet text from standard input and prints the page of each line.
+#![tactic(auto)]
+
 use page::write_refusal;
 use session::step;
 use std::io::{BufWriter, Read, Write};

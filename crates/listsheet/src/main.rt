@@ -1,4 +1,6 @@
 // Reads a sheet text from standard input, carries it out and prints the page of each line.
+#![tactic(auto)]
+
 use pair_table::PairTable;
 use printing::print_pages;
 use sheet::Sheet;

@@ -1,4 +1,6 @@
 // Need stores: a set of pairs of numbers below 512, in a fixed number of places.
+#![tactic(auto)]
+
 ghost use Rattle.std.specs.Prelude.{◌≡◌, ℕ, ◌≤◌, Bool, OnErr};
 ghost use Rattle.refusal.specs.Answers.{answered, leaves};
 ghost use Rattle.needs.specs.Pairs.{Within, no_pairs, put, take_out, Next};

@@ -1,4 +1,6 @@
 // Numbers kept in order in fixed memory: one put in or taken out, the others moved by one place.
+#![tactic(auto)]
+
 ghost use Rattle.std.specs.Prelude.{◌≡◌, ◌-◌, ◌∷◌, ◌++◌, length, take, drop};
 
 // Puts `value` first and moves the others up by one; the last falls out.

@@ -2,6 +2,8 @@
 //
 // A `put_` function counts its text in any case and writes it where it fits, so that a page is
 // measured by putting it into no bytes at all.
+#![tactic(auto)]
+
 ghost use Rattle.std.specs.Prelude.{◌≡◌, ◌≤◌, [], ◌∷◌, drop, decimal};
 ghost use Rattle.page.specs.Refusals.{refusal_page};
 ghost use Rattle.page.specs.Writing.{Put, Written, tabbed};

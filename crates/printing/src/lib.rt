@@ -1,4 +1,6 @@
 // A whole text carried out upon a sheet, its pages written one after another.
+#![tactic(auto)]
+
 ghost use Rattle.std.specs.Prelude.{◌≡◌, OnOk};
 ghost use Rattle.printing.specs.Whole.{after_text};
 ghost use Rattle.sheet.specs.Sheets.{book_of};
@@ -18,7 +20,7 @@ pub fn print_pages<S: NeedStore>(
     page: &mut [u8],
     out: &mut impl Write,
 ) -> anyhow::Result<()>
-    ensures { OnOk result (book_of has places sheet.new ≡ after_text (book_of has places sheet.old) bytes.now) }
+    ensures { OnOk result (book_of S.has S.places sheet.new ≡ after_text (book_of S.has S.places sheet.old) bytes.now) }
 {
     let mut text = match Text::open(bytes) {
         Ok(text) => text,

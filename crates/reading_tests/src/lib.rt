@@ -1,5 +1,7 @@
 // Texts, lines and records by example. The expected values are reckoned from docs/TEXT.md and
 // docs/REFUSALS.md.
+#![tactic(auto)]
+
 #[cfg(test)]
 mod tests {
     use field::Letter;

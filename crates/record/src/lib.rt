@@ -1,4 +1,6 @@
 // A line read as a record.
+#![tactic(auto)]
+
 ghost use Rattle.std.specs.Prelude.{◌≡◌, IfOk, Err, MatchResult};
 ghost use Rattle.refusal.specs.Answers.{seen};
 ghost use Rattle.text.specs.Cuts.{fields};

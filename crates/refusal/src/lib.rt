@@ -3,6 +3,8 @@
 // A fault is wrapped whole into the next one out, by `From`: a field's into its line's or its
 // sheet's, a store's into its sheet's, a line's and a sheet's into the text's. The table of
 // numbers is `specs/Table.antt`.
+#![tactic(auto)]
+
 ghost use Rattle.std.specs.Prelude.{◌≡◌, Some, codes};
 ghost use Rattle.refusal.specs.Table.{flaw_number, store_number, field_refusal, line_refusal, store_refusal, sheet_refusal, text_refusal, page_refusal};
 ghost use Rattle.refusal.specs.declared.LineFault.TheVariants as lines;

@@ -1,4 +1,6 @@
 // A text carried out step by step, one line and its page at a time.
+#![tactic(auto)]
+
 ghost use Rattle.std.specs.Prelude.{◌≡◌};
 ghost use Rattle.session.specs.Steps.{answer_to, Stepped};
 

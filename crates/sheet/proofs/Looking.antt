@@ -3,7 +3,7 @@ use Rattle.std.proofs.Common.{◌≡◌, ℕ, zero, suc, ◌+◌, ◌<◌, ◌�
 use Rattle.std.specs.Str.{bytes_eq}
 use Rattle.std.proofs.lemmas.Slice.Eq.{bytes_eq-Decides}
 use Rattle.std.proofs.lemmas.List.{length-map, length-take-le, get_or-map, get_or-take}
-use Rattle.std.proofs.lemmas.Bool.{cases_Bool, cases_lt, cases_order, lt-ltb, cond_true}
+use Rattle.std.proofs.lemmas.Bool.{cases_Bool, cases_lt, cases_order, lt-ltb, cond-true}
 use Rattle.ordered.specs.Order.{holds, Parted}
 use Rattle.ordered.proofs.Edits.{held_at}
 use Rattle.ordered.proofs.Halving.{Narrowed, middle, narrowed_up, narrowed_down}
@@ -71,7 +71,7 @@ module _ (t : Tasks) where
   numbered_at u d h =
       let l = count_long in
       let b : u < length (entries t) = omega arith in
-      cond_true (ltb u (length (entries t))) _ _ (lt-ltb u (length (entries t)) b)
+      cond-true (ltb u (length (entries t))) _ _ (lt-ltb u (length (entries t)) b)
       ∙ ap Some (entry_at t.count t.tasks u d (omega (arith, t.room, t.long.0)) h)
 
   -- two tasks of one name are one

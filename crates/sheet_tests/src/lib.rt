@@ -1,5 +1,7 @@
 // Sheets and need stores by example. The expected values are reckoned from docs/SHEETS.md and
 // docs/REFUSALS.md.
+#![tactic(auto)]
+
 #[cfg(test)]
 mod tests {
     use bit_rows::BitRows;

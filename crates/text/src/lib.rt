@@ -1,4 +1,6 @@
 // A text cut into lines, a line into fields, and a text read line by line.
+#![tactic(auto)]
+
 ghost use Rattle.std.specs.Prelude.{◌≡◌, ℕ, ◌<◌, ◌≤◌, [], length, MatchOption, MatchResult, ◌≢◌, slice_index};
 ghost use Rattle.refusal.specs.declared.TextFault.TheVariants.{TooLong};
 ghost use Rattle.text.specs.Cuts.{Cut, FirstLine};

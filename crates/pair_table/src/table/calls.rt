@@ -3,8 +3,7 @@ ghost use Rattle.std.specs.Prelude.{◌≡◌, ℕ, ◌+◌, ◌*◌, ◌<◌, t
 ghost use Rattle.needs.specs.Pairs.{limit, no_pairs, with_pair, Next};
 ghost use Rattle.pair_table.specs.Cells.{FitsAt, StandsAt};
 ghost use Rattle.pair_table.specs.Sorted.{used, pairs};
-ghost use borrow.Author.Rules;
-ghost use Rattle.std.proofs.Common.{arith};
+ghost use Rattle.std.proofs.Common.{rules};
 
 use crate::sorted::SortedPairs;
 use crate::table::PairTable;
@@ -67,9 +66,9 @@ impl NeedStore for PairTable {
 
     ghost places = { λ t. 4096 };
 
-    ghost within = { first_of (Prim.search Needs.needs, Prim.grind (arith, Self.row.coded.inj)) };
+    ghost within = { Prim.search rules };
 
-    ghost some_place = { first_of (Prim.search Needs.needs, Prim.grind (arith, Self.row.coded.inj)) };
+    ghost some_place = { Prim.search rules };
 
     fn insert(&mut self, a: usize, b: usize) -> Result<(), StoreFault> {
         if a >= LIMIT || b >= LIMIT {

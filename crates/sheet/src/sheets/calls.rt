@@ -18,7 +18,7 @@ use refusal::SheetFault;
 impl<S: NeedStore> Sheet<S> {
     // A sheet without tasks, over a store that is emptied.
     pub fn open(mut store: S) -> Sheet<S>
-        ensures { book_of has places result ≡ empty_book (places store) }
+        ensures { book_of S.has S.places result ≡ empty_book (S.places store) }
     {
         store.clear();
         Sheet {
@@ -29,9 +29,9 @@ impl<S: NeedStore> Sheet<S> {
 
     // Enters a task under the next number.
     pub fn enter(&mut self, name: &[u8], time: u64) -> Result<(), SheetFault>
-        ensures answer { result ≡ answer (book_of has places self.old) (enter_task name.now time) }
-        ensures book { book_of has places self.new ≡ after (book_of has places self.old) (enter_task name.now time) }
-        ensures kept { OnErr result (book_of has places self.new ≡ book_of has places self.old) }
+        ensures answer { result ≡ answer (book_of S.has S.places self.old) (enter_task name.now time) }
+        ensures book { book_of S.has S.places self.new ≡ after (book_of S.has S.places self.old) (enter_task name.now time) }
+        ensures kept { OnErr result (book_of S.has S.places self.new ≡ book_of S.has S.places self.old) }
     {
         let name = read_name(name, 2)?;
         let time = check_time(time, 3)?;
@@ -42,9 +42,9 @@ impl<S: NeedStore> Sheet<S> {
 
     // The first task needs the second.
     pub fn need(&mut self, task: &[u8], need: &[u8]) -> Result<(), SheetFault>
-        ensures answer { result ≡ answer (book_of has places self.old) (enter_need task.now need.now) }
-        ensures book { book_of has places self.new ≡ after (book_of has places self.old) (enter_need task.now need.now) }
-        ensures kept { OnErr result (book_of has places self.new ≡ book_of has places self.old) }
+        ensures answer { result ≡ answer (book_of S.has S.places self.old) (enter_need task.now need.now) }
+        ensures book { book_of S.has S.places self.new ≡ after (book_of S.has S.places self.old) (enter_need task.now need.now) }
+        ensures kept { OnErr result (book_of S.has S.places self.new ≡ book_of S.has S.places self.old) }
     {
         let task = read_name(task, 2)?;
         let need = read_name(need, 3)?;
@@ -59,9 +59,9 @@ impl<S: NeedStore> Sheet<S> {
 
     // The first task no longer needs the second.
     pub fn drop_need(&mut self, task: &[u8], need: &[u8]) -> Result<(), SheetFault>
-        ensures answer { result ≡ answer (book_of has places self.old) (drop_need task.now need.now) }
-        ensures book { book_of has places self.new ≡ after (book_of has places self.old) (drop_need task.now need.now) }
-        ensures kept { OnErr result (book_of has places self.new ≡ book_of has places self.old) }
+        ensures answer { result ≡ answer (book_of S.has S.places self.old) (drop_need task.now need.now) }
+        ensures book { book_of S.has S.places self.new ≡ after (book_of S.has S.places self.old) (drop_need task.now need.now) }
+        ensures kept { OnErr result (book_of S.has S.places self.new ≡ book_of S.has S.places self.old) }
     {
         let task = read_name(task, 2)?;
         let need = read_name(need, 3)?;
@@ -73,10 +73,10 @@ impl<S: NeedStore> Sheet<S> {
 
     // Gives the named task another time, and leaves every other as it is.
     pub fn retime(&mut self, name: &[u8], time: u64) -> Result<(), SheetFault>
-        ensures answer { result ≡ answer (book_of has places self.old) (retime_task name.now time) }
-        ensures book { book_of has places self.new ≡ after (book_of has places self.old) (retime_task name.now time) }
-        ensures kept { OnErr result (book_of has places self.new ≡ book_of has places self.old) }
-        ensures others { Others (book_of has places self.old).tasks (book_of has places self.new).tasks name.now }
+        ensures answer { result ≡ answer (book_of S.has S.places self.old) (retime_task name.now time) }
+        ensures book { book_of S.has S.places self.new ≡ after (book_of S.has S.places self.old) (retime_task name.now time) }
+        ensures kept { OnErr result (book_of S.has S.places self.new ≡ book_of S.has S.places self.old) }
+        ensures others { Others (book_of S.has S.places self.old).tasks (book_of S.has S.places self.new).tasks name.now }
     {
         let name = read_name(name, 2)?;
         let time = check_time(time, 3)?;
@@ -87,9 +87,9 @@ impl<S: NeedStore> Sheet<S> {
 
     // One call, as a request asks for it.
     pub fn carry_out(&mut self, request: Request<'_>) -> Result<(), SheetFault>
-        ensures answer { result ≡ answer (book_of has places self.old) (asked request.entry) }
-        ensures book { book_of has places self.new ≡ after (book_of has places self.old) (asked request.entry) }
-        ensures kept { OnErr result (book_of has places self.new ≡ book_of has places self.old) }
+        ensures answer { result ≡ answer (book_of S.has S.places self.old) (asked request.entry) }
+        ensures book { book_of S.has S.places self.new ≡ after (book_of S.has S.places self.old) (asked request.entry) }
+        ensures kept { OnErr result (book_of S.has S.places self.new ≡ book_of S.has S.places self.old) }
     {
         match request {
             Request::Enter { name, time } => self.enter(name, time),
@@ -101,7 +101,7 @@ impl<S: NeedStore> Sheet<S> {
 
     // One call after another, granted or refused.
     fn carry_out_all(&mut self, requests: &[Request<'_>])
-        ensures { book_of has places self.new ≡ lived (book_of has places self.old) (life_of requests.now) }
+        ensures { book_of S.has S.places self.new ≡ lived (book_of S.has S.places self.old) (life_of requests.now) }
     {
         for request in requests {
             let _ = self.carry_out(*request);
@@ -110,7 +110,7 @@ impl<S: NeedStore> Sheet<S> {
 
     // A whole life: a sheet opened over a store, and one call after another.
     pub fn live(store: S, requests: &[Request<'_>]) -> Sheet<S>
-        ensures { book_of has places result ≡ booked (places store) (life_of requests.now) }
+        ensures { book_of S.has S.places result ≡ booked (S.places store) (life_of requests.now) }
     {
         let mut sheet = Sheet::open(store);
         sheet.carry_out_all(requests);
@@ -119,35 +119,35 @@ impl<S: NeedStore> Sheet<S> {
 
     // How many tasks are entered.
     pub fn len(&self) -> usize
-        ensures { result ≡ length (book_of has places self.now).tasks }
+        ensures { result ≡ length (book_of S.has S.places self.now).tasks }
     {
         self.tasks.len()
     }
 
     // The number of the task of this name.
     pub fn number(&self, name: &[u8]) -> Option<usize>
-        ensures { result ≡ number_of (book_of has places self.now).tasks name.now }
+        ensures { result ≡ number_of (book_of S.has S.places self.now).tasks name.now }
     {
         self.tasks.find(name).ok()
     }
 
     // The name of a task.
     pub fn name(&self, number: usize) -> Option<&[u8]>
-        ensures { option_map (λ x. x.now) result ≡ option_map (λ t. t.name) (numbered (book_of has places self.now).tasks number) }
+        ensures { option_map (λ x. x.now) result ≡ option_map (λ t. t.name) (numbered (book_of S.has S.places self.now).tasks number) }
     {
         self.tasks.name(number)
     }
 
     // The time of a task.
     pub fn time(&self, number: usize) -> Option<u64>
-        ensures { result ≡ option_map (λ t. t.time) (numbered (book_of has places self.now).tasks number) }
+        ensures { result ≡ option_map (λ t. t.time) (numbered (book_of S.has S.places self.now).tasks number) }
     {
         self.tasks.time(number)
     }
 
     // The store, to ask it for needs and followers.
     pub fn store(&self) -> &S
-        ensures { (has result.now ≡ (book_of has places self.now).needs) × (places result.now ≡ (book_of has places self.now).places) }
+        ensures { (S.has result.now ≡ (book_of S.has S.places self.now).needs) × (S.places result.now ≡ (book_of S.has S.places self.now).places) }
     {
         &self.store
     }

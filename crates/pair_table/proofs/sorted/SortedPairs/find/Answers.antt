@@ -18,7 +18,7 @@ pub returns-else-at-self : goal.returns-else-at-self
 returns-else-at-self c =
     let s = c.args.self.now in
     let n = used_long c.args.self.now in
-    let l = subst (λ k. Lower (used c.args.self.now) k c.rank-at.result) c.cell-of-cell.ensures c.rank-at.ensures in
+    let l = subst (λ k. Lower (used c.args.self.now) k c.rank-at.result) c.cell_of-cell.ensures c.rank-at.ensures in
     let f : FitsAt (used c.args.self.now) (c.args.x * limit + c.args.y) c.rank-at.result =
     lower_fits (used s) _ _ s.rising l (λ h is.
     let e = used_at c.args.self.now c.rank-at.result (omega arith) in

@@ -9,14 +9,14 @@ pub returns-then-at-self : goal.returns-then-at-self
 returns-then-at-self c =
     let s = c.args.self.now in
     let n = used_long c.args.self.now in
-    let l = subst (λ k. Lower (used c.args.self.now) k c.rank-at.result) c.cell-of.ensures c.rank-at.ensures in
+    let l = subst (λ k. Lower (used c.args.self.now) k c.rank-at.result) c.cell_of.ensures c.rank-at.ensures in
     next_past (used s) c.args.x c.args.k c.rank-at.result s.rising l (omega arith)
 
 pub returns-then-cell-x : goal.returns-then-cell-x
 returns-then-cell-x c =
     let s = c.args.self.now in
     let n = used_long c.args.self.now in
-    let l = subst (λ k. Lower (used c.args.self.now) k c.rank-at.result) c.cell-of.ensures c.rank-at.ensures in
+    let l = subst (λ k. Lower (used c.args.self.now) k c.rank-at.result) c.cell_of.ensures c.rank-at.ensures in
     let e = used_at c.args.self.now c.rank-at.result (omega arith) in
     subst (λ (v : ℕ). Next (in_cells (used c.args.self.now) c.args.x) c.args.k (Some (v % limit))) e
     (next_here (used s) c.args.x c.args.k c.rank-at.result s.rising l (omega arith) (omega arith) (search rules))
@@ -25,6 +25,6 @@ pub returns-else-cell-x : goal.returns-else-cell-x
 returns-else-cell-x c =
     let s = c.args.self.now in
     let n = used_long c.args.self.now in
-    let l = subst (λ k. Lower (used c.args.self.now) k c.rank-at.result) c.cell-of.ensures c.rank-at.ensures in
+    let l = subst (λ k. Lower (used c.args.self.now) k c.rank-at.result) c.cell_of.ensures c.rank-at.ensures in
     let e = used_at c.args.self.now c.rank-at.result (omega arith) in
     next_none (used s) c.args.x c.args.k c.rank-at.result s.rising l (omega arith) (search rules)

@@ -10,7 +10,7 @@ pub invariant_of-self : goal.invariant_of-self
 invariant_of-self c =
     let a = c.args in
     let g = good_taken a.self.now a.at a.x a.y c.requires.low.0 c.requires.low.1 c.requires.place c.shift_down.new.part c.shift_down.ensures in
-    ((omega arith, search rules), (g.rising, (g.small, (g.counted, tt))))
+    record { room = (omega arith, search rules); rising = g.rising; small = g.small; counted = g.counted }
 
 pub returns : goal.returns
 returns c =

@@ -11,7 +11,4 @@ unreachable-requires c =
     both_ways _ (c.args.self.now.mirrored c.args.a c.args.b ∙ h) (sym c.in_default.ensures.test)
 
 pub invariant_of-self : goal.invariant_of-self
-invariant_of-self c = (
-  mirrors_changed _ _ _ _ c.args.a c.args.b true c.args.self.now.mirrored c.insert.ensures.set c.insert-2.ensures.set,
-  (omega (arith, c.insert.ensures.len, c.insert-2.ensures.len, c.args.self.now.even), tt),
-)
+invariant_of-self c = record { mirrored = mirrors_changed _ _ _ _ c.args.a c.args.b true c.args.self.now.mirrored c.insert.ensures.set c.insert-2.ensures.set; even = omega (arith, c.insert.ensures.len, c.insert-2.ensures.len, c.args.self.now.even) }

@@ -12,7 +12,4 @@ unreachable-requires c =
     both_ways _ (sym c.in_default.ensures.test) (c.args.self.now.mirrored c.args.a c.args.b ∙ h)
 
 pub invariant_of-self : goal.invariant_of-self
-invariant_of-self c = (
-  mirrors_changed _ _ _ _ c.args.a c.args.b false c.args.self.now.mirrored c.remove.ensures.set c.remove-2.ensures.set,
-  (omega (arith, c.remove.ensures.len, c.remove-2.ensures.len, c.args.self.now.even), tt),
-)
+invariant_of-self c = record { mirrored = mirrors_changed _ _ _ _ c.args.a c.args.b false c.args.self.now.mirrored c.remove.ensures.set c.remove-2.ensures.set; even = omega (arith, c.remove.ensures.len, c.remove-2.ensures.len, c.args.self.now.even) }

@@ -7,7 +7,7 @@ pub invariant_of-self : goal.invariant_of-self
 invariant_of-self c =
     let x : Task = record { name = c.new.result; time = c.args.time } in
     let g = table_more c.args.self.now x c.args.name.now c.new.ensures c.requires.room c.args.place _ c.shift_up.new.part refl c.requires.timed c.requires.gap c.shift_up.ensures in
-    (omega arith, ((search rules, search rules), (g.timed, (g.numbers, (g.named, (g.whole, tt))))))
+    record { room = omega arith; long = (search rules, search rules); timed = g.timed; numbers = g.numbers; named = g.named; whole = g.whole }
 
 pub returns : goal.returns
 returns c = entries_more c.args.self.now _ c.args.name.now c.new.ensures c.requires.room

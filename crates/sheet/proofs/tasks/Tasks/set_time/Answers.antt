@@ -7,7 +7,7 @@ pub invariant_of-self : goal.invariant_of-self
 invariant_of-self c =
     let t = c.args.self.now in
     let g = table_retimed t c.args.number _ c.index-self-number.result c.requires.within refl c.requires.timed in
-    (t.room, ((search rules, t.long.1), (g.timed, (g.numbers, (g.named, (g.whole, tt))))))
+    record { room = t.room; long = (search rules, t.long.1); timed = g.timed; numbers = g.numbers; named = g.named; whole = g.whole }
 
 pub returns : goal.returns
 returns c =
