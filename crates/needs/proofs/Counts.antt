@@ -1,5 +1,5 @@
 -- How many pairs a set has: one more, one less, none, and room for one.
-use Rattle.std.proofs.Common.{◌≡◌, ℕ, zero, suc, ◌+◌, ◌*◌, ◌<◌, ◌≤◌, Bool, true, false, cond, ◌&&◌, eqb, Ok, Err, sym, refl, ap, ◌∙◌, ⊎_elim, suc-mul, arith, lit<}
+use Rattle.std.proofs.Common.{◌≡◌, ℕ, zero, suc, ◌+◌, ◌*◌, ◌<◌, ◌≤◌, Bool, true, false, Ok, sym, refl, ap, ⊎_elim, suc-mul, arith, lit<}
 use mathlib.Core.Path.{fun_ext}
 use Rattle.std.proofs.lemmas.Bool.{cases_eq, eq-eqb, ne_eqb, lt-leb}
 use Rattle.needs.specs.Pairs.{Pairs, with_pair, sum_below, one_if, count, no_pairs, put, limit}

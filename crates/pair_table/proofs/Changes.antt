@@ -1,9 +1,8 @@
 -- The cells in use after one was put in or taken out.
 use borrow.Rule.Slice.PartMut.{put_mid}
-use Rattle.std.proofs.Common.{◌≡◌, ℕ, ◌+◌, ◌-◌, ◌*◌, ◌<◌, ◌≤◌, List, ◌∷◌, ◌++◌, length, get_or, take, drop, sym, ap, ◌∙◌, subst, arith}
+use Rattle.std.proofs.Common.{◌≡◌, ℕ, ◌+◌, ◌-◌, ◌*◌, ◌<◌, List, ◌∷◌, ◌++◌, length, take, drop, sym, ap, ◌∙◌, subst, arith}
 use Rattle.std.specs.List.{insert, remove}
-use Rattle.needs.specs.Pairs.{limit, count, with_pair}
-use Rattle.ordered.specs.Order.{Each, Ordered}
+use Rattle.needs.specs.Pairs.{limit, count}
 use Rattle.ordered.proofs.Edits.{each_inserted, ordered_inserted, each_removed, ordered_removed}
 use Rattle.ordered.proofs.Parts.{one_more, one_fewer}
 use Rattle.pair_table.specs.Cells.{Rising, Small, in_cells, FitsAt, StandsAt}

@@ -1,11 +1,10 @@
 -- Where a pair stands among the cells, and which pair of a row comes next.
-use Rattle.std.proofs.Common.{◌≡◌, ℕ, ◌+◌, ◌*◌, ◌/◌, ◌%◌, ◌<◌, ◌≤◌, true, false, List, length, get_or, take, is_ok, Some, None, Ok, Err, Result, sym, refl, ap, ◌∙◌, subst, ⊎_elim, arith}
+use Rattle.std.proofs.Common.{◌≡◌, ℕ, ◌+◌, ◌*◌, ◌/◌, ◌%◌, ◌<◌, ◌≤◌, true, false, List, length, get_or, is_ok, Some, None, Ok, Err, Result, sym, subst, ⊎_elim, arith}
 use Rattle.std.proofs.lemmas.List.{length-take-le, get_or-take}
 use Rattle.std.proofs.lemmas.Bool.{cases_lt}
 use Rattle.needs.specs.Pairs.{limit, Next}
-use Rattle.ordered.specs.Order.{Each, Parted}
 use Rattle.ordered.proofs.Edits.{holds_some}
-use Rattle.pair_table.specs.Cells.{in_cells, Rising, Lower, FitsAt, StandsAt, Found}
+use Rattle.pair_table.specs.Cells.{in_cells, Rising, Lower, FitsAt, Found}
 use Rattle.pair_table.specs.Sorted.{used}
 use Rattle.pair_table.specs.declared.sorted.SortedPairs.{SortedPairs}
 use Rattle.pair_table.proofs.Sets.{in_cells_at, absent, not_held}

@@ -1,13 +1,13 @@
 -- The set that cells stand for: one cell more, one fewer, and how many pairs it has.
-use Rattle.std.proofs.Common.{◌≡◌, ℕ, ◌+◌, ◌*◌, ◌/◌, ◌%◌, ◌<◌, ◌≤◌, Bool, true, false, ◌&&◌, ltb, List, [], length, get_or, sym, refl, ap, ◌∙◌, ⊎_elim, arith}
+use Rattle.std.proofs.Common.{◌≡◌, ℕ, ◌+◌, ◌*◌, ◌<◌, ◌≤◌, Bool, true, false, ◌&&◌, ltb, List, [], length, get_or, sym, refl, ap, ◌∙◌, ⊎_elim, arith}
 use mathlib.Core.Path.{fun_ext}
 use Rattle.std.specs.List.{insert, remove}
 use Rattle.std.proofs.lemmas.Bool.{cases_eq, cases_lt, eq-eqb, ne_eqb, lt-ltb, le-ltb, and_left, and_right}
-use Rattle.needs.specs.Pairs.{Pairs, limit, count, with_pair, no_pairs}
+use Rattle.needs.specs.Pairs.{limit, count, with_pair, no_pairs}
 use Rattle.needs.proofs.Counts.{count_with, count_without, count_none}
 use Rattle.ordered.specs.Order.{holds, Each}
 use Rattle.ordered.proofs.Edits.{holds_none, holds_some, holds_inserted_here, holds_inserted_other, holds_removed_here, holds_removed_other}
-use Rattle.pair_table.specs.Cells.{in_cells, Rising, Small, FitsAt}
+use Rattle.pair_table.specs.Cells.{in_cells, Rising, FitsAt}
 
 -- a cell stands for one pair
 same_cell : (a b x y : ℕ) → b < limit → y < limit → (x ≡ a → y ≡ b → ⊥) → a * limit + b ≡ x * limit + y → ⊥

@@ -1,10 +1,9 @@
 -- A name looked up among the names of the tasks.
-use Rattle.std.proofs.Common.{◌≡◌, ℕ, zero, suc, ◌+◌, ◌<◌, ◌≤◌, Bool, true, false, cond, ltb, List, [], ◌∷◌, map, length, get_or, take, Some, None, Option, Less, Equal, Greater, sym, refl, ap, ◌∙◌, subst, ⊎_elim, add-one, arith}
+use Rattle.std.proofs.Common.{◌≡◌, ℕ, zero, suc, ◌+◌, ◌<◌, ◌≤◌, true, false, ltb, List, [], ◌∷◌, length, get_or, take, Some, None, Less, Equal, Greater, sym, refl, ap, ◌∙◌, subst, ⊎_elim, arith}
 use Rattle.std.specs.Str.{bytes_eq}
 use Rattle.std.proofs.lemmas.Slice.Eq.{bytes_eq-Decides}
 use Rattle.std.proofs.lemmas.List.{length-map, length-take-le, get_or-map, get_or-take}
 use Rattle.std.proofs.lemmas.Bool.{cases_Bool, cases_lt, cases_order, lt-ltb, cond-true}
-use Rattle.ordered.specs.Order.{holds, Parted}
 use Rattle.ordered.proofs.Edits.{held_at}
 use Rattle.ordered.proofs.Halving.{Narrowed, middle, narrowed_up, narrowed_down}
 use Rattle.sheet.specs.Entries.{Entry, entry, task, numbered, number_from, number_of}

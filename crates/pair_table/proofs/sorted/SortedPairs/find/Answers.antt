@@ -1,4 +1,4 @@
-use Rattle.std.proofs.Common.{◌≡◌, ℕ, ◌+◌, ◌*◌, Ok, Err, subst, arith, rules}
+use Rattle.std.proofs.Common.{◌+◌, ◌*◌, Ok, Err, subst, arith}
 use Rattle.needs.specs.Pairs.{limit}
 use Rattle.pair_table.specs.Cells.{Lower, StandsAt, FitsAt}
 use Rattle.pair_table.specs.Sorted.{used}

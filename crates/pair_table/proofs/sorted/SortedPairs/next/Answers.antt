@@ -1,4 +1,4 @@
-use Rattle.std.proofs.Common.{◌≡◌, ℕ, ◌+◌, ◌*◌, ◌/◌, ◌%◌, ◌<◌, get_or, Some, subst, arith, rules}
+use Rattle.std.proofs.Common.{ℕ, ◌%◌, Some, subst, arith, rules}
 use Rattle.needs.specs.Pairs.{limit, Next}
 use Rattle.pair_table.specs.Cells.{Lower, in_cells}
 use Rattle.pair_table.specs.Sorted.{used}
