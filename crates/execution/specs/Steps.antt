@@ -2,13 +2,13 @@
 use Rattle.std.specs.Prelude.{◌≡◌, ℕ, ◌+◌, ◌<◌, List, [], ◌∷◌, length, Some, None, Ok, Err, Option, Result}
 use Rattle.std.specs.Option.{option_to_list}
 use Rattle.refusal.specs.Answers.{then, within}
-use Rattle.refusal.specs.Table.{text_refusal}
+use Rattle.refusal.specs.Table.{step_refusal}
 use Rattle.refusal.specs.declared.LineFault.{LineFault}
 use Rattle.refusal.specs.declared.PageFault.{PageFault}
 use Rattle.refusal.specs.declared.PageFault.TheVariants.{Short}
 use Rattle.refusal.specs.declared.SheetFault.{SheetFault}
-use Rattle.refusal.specs.declared.TextFault.{TextFault}
-use Rattle.refusal.specs.declared.TextFault.TheVariants.{Line, Sheet}
+use Rattle.refusal.specs.declared.StepFault.{StepFault}
+use Rattle.refusal.specs.declared.StepFault.TheVariants.{Line, Sheet}
 use Rattle.record.specs.Records.{Asked, record_of, enters, needs, drops, retimes, plans}
 use Rattle.sheet.specs.Book.{Book, Call, enter_task, enter_need, drop_need, retime_task, answer}
 use Rattle.sheet.specs.Lives.{lived}
@@ -39,7 +39,7 @@ answer_if b None = Ok tt
 answer_if b (Some c) = answer b c
 
 -- the answer to the line s, upon the book b
-abbrev pub answer_to : Book → List ℕ → Result (Unit {0}) TextFault
+abbrev pub answer_to : Book → List ℕ → Result (Unit {0}) StepFault
 answer_to b s = then (within Line (record_of s)) (λ a. within Sheet (answer_if b (call_for a)))
 
 -- the book b after the line s: its life goes on with the call that the line asks for
@@ -47,9 +47,9 @@ abbrev pub after_line : Book → List ℕ → Book
 after_line b s = lived b (option_to_list (call_of s))
 
 -- what an answer prints in line n: a refusal its page, a granted record nothing
-abbrev pub printed : ℕ → Result (Unit {0}) TextFault → List ℕ
+abbrev pub printed : ℕ → Result (Unit {0}) StepFault → List ℕ
 printed n (Ok x) = []
-printed n (Err f) = refusal_page (text_refusal n f)
+printed n (Err f) = refusal_page (step_refusal n f)
 
 -- the page of the line s, which is the n-th, upon the book b
 abbrev pub page_of : ℕ → Book → List ℕ → List ℕ

@@ -8,12 +8,12 @@ ghost use Rattle.sheet.specs.Sheets.{book_of};
 use needs::NeedStore;
 use page::write_refusal;
 use record::{Record, read_record};
-use refusal::{PageFault, TextFault};
+use refusal::{PageFault, StepFault};
 use sheet::Sheet;
 use text::Text;
 
 // Carries a line out; planning is only read.
-fn carry_out<S: NeedStore>(sheet: &mut Sheet<S>, line: &[u8]) -> Result<(), TextFault>
+fn carry_out<S: NeedStore>(sheet: &mut Sheet<S>, line: &[u8]) -> Result<(), StepFault>
     ensures answer { result ≡ answer_to (book_of S.has S.places sheet.old) line.now }
     ensures book { book_of S.has S.places sheet.new ≡ after_line (book_of S.has S.places sheet.old) line.now }
     ensures kept { OnErr result (book_of S.has S.places sheet.new ≡ book_of S.has S.places sheet.old) }

@@ -4,13 +4,15 @@ use Rattle.refusal.specs.declared.Flaw.{Flaw}
 use Rattle.refusal.specs.declared.Flaw.TheVariants.{Name, Number, Range, Ranking}
 use Rattle.refusal.specs.declared.FieldFault.{FieldFault}
 use Rattle.refusal.specs.declared.LineFault.{LineFault}
-use Rattle.refusal.specs.declared.LineFault.TheVariants as lines
+use Rattle.refusal.specs.declared.LineFault.TheVariants.{Letter, FieldCount, Field}
 use Rattle.refusal.specs.declared.StoreFault.{StoreFault}
 use Rattle.refusal.specs.declared.StoreFault.TheVariants.{TooLarge, Present, Full, Absent}
 use Rattle.refusal.specs.declared.SheetFault.{SheetFault}
 use Rattle.refusal.specs.declared.SheetFault.TheVariants as sheets
 use Rattle.refusal.specs.declared.TextFault.{TextFault}
-use Rattle.refusal.specs.declared.TextFault.TheVariants as texts
+use Rattle.refusal.specs.declared.TextFault.TheVariants.{TooLong, Line}
+use Rattle.refusal.specs.declared.StepFault.{StepFault}
+use Rattle.refusal.specs.declared.StepFault.TheVariants as steps
 use Rattle.refusal.specs.declared.PageFault.{PageFault}
 use Rattle.refusal.specs.declared.PageFault.TheVariants.{Short}
 use Rattle.refusal.specs.declared.Refusal.{Refusal}
@@ -29,9 +31,9 @@ abbrev pub field_refusal : ℕ → FieldFault → Refusal
 field_refusal l f = refusal_at l f.field (flaw_number f.flaw)
 
 abbrev pub line_refusal : ℕ → LineFault → Refusal
-line_refusal l lines.Letter = refusal_at l 1 21
-line_refusal l lines.FieldCount = refusal_at l 0 22
-line_refusal l (lines.Field f) = field_refusal l f
+line_refusal l Letter = refusal_at l 1 21
+line_refusal l FieldCount = refusal_at l 0 22
+line_refusal l (Field f) = field_refusal l f
 
 abbrev pub store_number : StoreFault → ℕ
 store_number TooLarge = 38
@@ -52,9 +54,13 @@ sheet_refusal l (sheets.Store f) = store_refusal l f
 
 -- a text that is too long has no line
 abbrev pub text_refusal : ℕ → TextFault → Refusal
-text_refusal l texts.TooLong = refusal_at 0 0 51
-text_refusal l (texts.Line f) = line_refusal l f
-text_refusal l (texts.Sheet f) = sheet_refusal l f
+text_refusal l TooLong = refusal_at 0 0 51
+text_refusal l (Line f) = line_refusal l f
+
+-- a line that is carried out is refused as a line or by the sheet
+abbrev pub step_refusal : ℕ → StepFault → Refusal
+step_refusal l (steps.Line f) = line_refusal l f
+step_refusal l (steps.Sheet f) = sheet_refusal l f
 
 abbrev pub page_refusal : PageFault → Refusal
 page_refusal Short = refusal_at 0 0 61

@@ -1,15 +1,16 @@
 // Faults of fields, lines, stores, sheets, texts and pages, and what each is told by.
 //
 // A fault is wrapped whole into the next one out, by `From`: a field's into its line's or its
-// sheet's, a store's into its sheet's, a line's and a sheet's into the text's. The table of
-// numbers is `specs/Table.antt`.
+// sheet's, a store's into its sheet's, a line's into its text's, a line's or a sheet's into that of
+// the step that carries the line out. The table of numbers is `specs/Table.antt`.
 #![tactic(auto)]
 
 ghost use Rattle.std.specs.Prelude.{◌≡◌, Some, codes};
-ghost use Rattle.refusal.specs.Table.{flaw_number, store_number, field_refusal, line_refusal, store_refusal, sheet_refusal, text_refusal, page_refusal};
-ghost use Rattle.refusal.specs.declared.LineFault.TheVariants as lines;
+ghost use Rattle.refusal.specs.Table.{flaw_number, store_number, field_refusal, line_refusal, store_refusal, sheet_refusal, text_refusal, step_refusal, page_refusal};
+ghost use Rattle.refusal.specs.declared.LineFault.TheVariants.{Field};
 ghost use Rattle.refusal.specs.declared.SheetFault.TheVariants as sheets;
-ghost use Rattle.refusal.specs.declared.TextFault.TheVariants as texts;
+ghost use Rattle.refusal.specs.declared.TextFault.TheVariants.{Line};
+ghost use Rattle.refusal.specs.declared.StepFault.TheVariants as steps;
 
 use std::error::Error;
 use std::fmt;
@@ -70,6 +71,12 @@ pub enum SheetFault {
 pub enum TextFault {
     TooLong,
     Line(LineFault),
+}
+
+// What a line that is carried out upon a sheet is refused by.
+#[derive(Clone, Copy, PartialEq, Eq, Debug)]
+pub enum StepFault {
+    Line(LineFault),
     Sheet(SheetFault),
 }
 
@@ -89,7 +96,7 @@ pub struct Refusal {
 }
 
 impl From<FieldFault> for LineFault {
-    ghost from_gives = { λ f r. r ≡ lines.Field f };
+    ghost from_gives = { λ f r. r ≡ Field f };
 
     fn from(fault: FieldFault) -> LineFault {
         LineFault::Field(fault)
@@ -97,7 +104,7 @@ impl From<FieldFault> for LineFault {
 }
 
 impl From<LineFault> for TextFault {
-    ghost from_gives = { λ f r. r ≡ texts.Line f };
+    ghost from_gives = { λ f r. r ≡ Line f };
 
     fn from(fault: LineFault) -> TextFault {
         TextFault::Line(fault)
@@ -120,11 +127,19 @@ impl From<StoreFault> for SheetFault {
     }
 }
 
-impl From<SheetFault> for TextFault {
-    ghost from_gives = { λ f r. r ≡ texts.Sheet f };
+impl From<LineFault> for StepFault {
+    ghost from_gives = { λ f r. r ≡ steps.Line f };
 
-    fn from(fault: SheetFault) -> TextFault {
-        TextFault::Sheet(fault)
+    fn from(fault: LineFault) -> StepFault {
+        StepFault::Line(fault)
+    }
+}
+
+impl From<SheetFault> for StepFault {
+    ghost from_gives = { λ f r. r ≡ steps.Sheet f };
+
+    fn from(fault: SheetFault) -> StepFault {
+        StepFault::Sheet(fault)
     }
 }
 
@@ -238,7 +253,17 @@ impl TextFault {
                 number: 51,
             },
             TextFault::Line(fault) => fault.refusal(line),
-            TextFault::Sheet(fault) => fault.refusal(line),
+        }
+    }
+}
+
+impl StepFault {
+    pub fn refusal(self, line: usize) -> Refusal
+        ensures { result ≡ step_refusal line self }
+    {
+        match self {
+            StepFault::Line(fault) => fault.refusal(line),
+            StepFault::Sheet(fault) => fault.refusal(line),
         }
     }
 }
