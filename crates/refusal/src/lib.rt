@@ -1,4 +1,4 @@
-// Faults of fields, lines, stores, sheets, texts and pages, and what each is told by.
+// Faults of fields, lines, stores, sheets, texts, steps and pages, and what each is told by.
 //
 // A fault is wrapped whole into the next one out, by `From`: a field's into its line's or its
 // sheet's, a store's into its sheet's, a line's into its text's, a line's or a sheet's into that of
