@@ -1,15 +1,9 @@
 -- One text written after another.
-use Rattle.std.proofs.Common.{◌≡◌, ℕ, ◌+◌, ◌-◌, ◌^◌, ◌<◌, ◌≤◌, min, List, ◌++◌, length, take, drop, sym, ap, ◌∙◌, append_assoc, arith, length-append, length-drop, length-take}
-use borrow.Rule.Slice.PartMut.{put_mid}
+use Rattle.std.proofs.Common.{◌≡◌, ℕ, ◌+◌, ◌≤◌, List, ◌++◌, length, take, drop, sym, ap, ◌∙◌, append_assoc, arith, length-append}
 use Rattle.std.proofs.lemmas.List.{drop-drop, take_at, drop_at, length-take-le}
+use Rattle.page.specs.Pages.{Puts}
 use Rattle.page.specs.Writing.{written, Put, Front}
-
-written_part : (d s ys : List ℕ) (i : ℕ) → ys ≡ s → put_mid i ((i + length s) - i) d ys ≡ written d i s
-written_part d s ys i e =
-    let k : (i + length s) - i ≡ length s = omega arith in
-    ap (λ (m : ℕ). put_mid i m d ys) k
-    ∙ ap (λ (w : List ℕ). take i d ++ (w ++ drop (length s) (drop i d))) e
-    ∙ ap (λ (w : List ℕ). take i d ++ (s ++ w)) (drop-drop (length s) i d)
+use Rattle.page.specs.declared.Page.{Page}
 
 module _ (d s t : List ℕ) (i : ℕ) (h : i ≤ length d) where
   front : List ℕ
@@ -53,22 +47,15 @@ put_then {d} {e} {f} {s} {t} {i} {j} {k} a b =
       room = a.room;
     }
 
+pub puts_then : {p q r : Page} {s t : List ℕ} → Puts p q s → Puts q r t → Puts p r (s ++ t)
+puts_then a b = record { put = put_then a.put b.put; same = b.same ∙ a.same }
+
 -- a text put at the front
 front_text : (d e s : List ℕ) (j : ℕ) → Put d 0 e j s → length s ≤ length d → j ≡ length s → (take j e ≡ s) × (drop j e ≡ drop j d)
 front_text d e s j w h n =
     let p : e ≡ s ++ drop (0 + length s) d = w.text (omega arith) in
     let q : length s ≡ j = omega arith in
     (ap (take j) p ∙ take_at s (drop (0 + length s) d) j q, ap (drop j) p ∙ drop_at s (drop (0 + length s) d) j q ∙ ap (λ m. drop m d) (omega arith))
-
-written_long : (d s : List ℕ) (i : ℕ) → i + length s ≤ length d → length (written d i s) ≡ length d
-written_long d s i h = simp (length-append, length-take, length-drop) (omega arith)
-
--- a part overwritten
-pub put_part : (d s ys : List ℕ) (i j : ℕ) → j ≡ min (i + length s) (2 ^ 64 - 1) → j ≤ length d → length d < 2 ^ 63 → ys ≡ s → Put d i (put_mid i (j - i) d ys) j s
-put_part d s ys i j n h r e =
-    let ij : j ≡ i + length s = omega arith in
-    let t : put_mid i (j - i) d ys ≡ written d i s = ap (λ m. put_mid i (m - i) d ys) ij ∙ written_part d s ys i e in
-    record { next = n; text = λ _. t; long = ap length t ∙ written_long d s i (omega arith); room = r }
 
 -- a text measured by putting it into other bytes, and then put into d, stands at the front
 pub measured_front : {m m' d e s : List ℕ} {n j : ℕ} → Put m 0 m' n s → n ≤ length d → Put d 0 e j s → Front s j d e

@@ -5,41 +5,34 @@
 #[cfg(test)]
 mod tests {
     use field::Letter;
-    use page::write_refusal;
+    use pair_table::PairTable;
+    use printing::{print_pages, run};
     use record::{Record, read_record};
     use refusal::{PageFault, TextFault};
-    use session::step;
+    use session::{Handler, Reading, step};
+    use sheet::Sheet;
     use std::alloc::Global;
     use std::process::Abort;
     use std::test::Fail;
     use text::{Text, cut_field, cut_line};
 
-    // The pages of all lines of a text, or the one page of a text that cannot be opened.
-    fn pages(heap: Global, bytes: &[u8]) -> Result<Vec<u8>, Fail> {
+    fn pages<H: Handler>(heap: Global, handler: &mut H, bytes: &[u8]) -> Result<Vec<u8>, Fail> {
         let mut all = Vec::new(heap);
-        let mut page = [0; 32];
-        match Text::open(bytes) {
-            Ok(mut text) => {
-                while let Some(count) = step(&mut text, &mut page)? {
-                    all.extend_from_slice(&page[0..count])?;
-                }
-            }
-            Err(fault) => {
-                let count = write_refusal(&mut page, fault.refusal(0))?;
-                all.extend_from_slice(&page[0..count])?;
-            }
-        }
+        print_pages(bytes, handler, &mut [0; 32], &mut all)?;
         Ok(all)
     }
 
+    // The pages of a text that is read, which are those of one that is carried out.
     fn check_pages(
         rt: &impl Abort,
         heap: Global,
         bytes: &[u8],
         expected: &[u8],
     ) -> Result<(), Fail> {
-        let all = pages(heap, bytes)?;
-        assert_eq!(rt; all.as_slice(), expected);
+        let read = pages(heap, &mut Reading, bytes)?;
+        assert_eq!(rt; read.as_slice(), expected);
+        let carried_out = pages(heap, &mut Sheet::open(PairTable::new()), bytes)?;
+        assert_eq!(rt; carried_out.as_slice(), expected);
         Ok(())
     }
 
@@ -72,11 +65,13 @@ mod tests {
         Ok(())
     }
 
-    // As many lines as bytes, each with its number.
-    #[test]
-    fn most_lines(rt: HostRuntime) -> Result<(), Fail> {
-        let feeds = vec![in rt.alloc(); b'\n'; 65_536]?;
-        let all = pages(rt.alloc(), &feeds)?;
+    fn check_most_lines<H: Handler>(
+        rt: &impl Abort,
+        heap: Global,
+        handler: &mut H,
+    ) -> Result<(), Fail> {
+        let feeds = vec![in heap; b'\n'; 65_536]?;
+        let all = pages(heap, handler, &feeds)?;
         // 1 to 5 digits a line: 9, 90, 900, 9,000 and 55,537 lines of 8 bytes and the digits.
         assert_eq!(rt; all.len(), 840_862);
         assert!(rt;
@@ -86,20 +81,46 @@ mod tests {
         Ok(())
     }
 
-    // A page of 9 bytes in 8 and in 12; after the last line nothing is written.
+    // As many lines as bytes, each with its number.
     #[test]
-    fn lent_bytes(rt: HostRuntime) -> Result<(), Fail> {
+    fn most_lines(rt: HostRuntime) -> Result<(), Fail> {
+        check_most_lines(&rt, rt.alloc(), &mut Reading)?;
+        check_most_lines(&rt, rt.alloc(), &mut Sheet::open(PairTable::new()))
+    }
+
+    fn check_lent_bytes<H: Handler>(rt: &impl Abort, handler: &mut H) -> Result<(), Fail> {
         let mut text = Text::open(b"T\ta\t1\nx")?;
-        assert_eq!(rt; step(&mut text, &mut [])?, Some(0));
+        assert_eq!(rt; step(&mut text, handler, &mut [])?, Some(0));
         let mut eight = [7; 8];
-        assert_eq!(rt; step(&mut text, &mut eight), Err(PageFault::Short));
+        assert_eq!(rt; step(&mut text, handler, &mut eight), Err(PageFault::Short));
         assert_eq!(rt; eight, [7; 8]);
         assert_eq!(rt; text.lines_read(), 1);
         let mut twelve = [7; 12];
-        assert_eq!(rt; step(&mut text, &mut twelve)?, Some(9));
-        assert_eq!(rt; step(&mut text, &mut twelve)?, None);
+        assert_eq!(rt; step(&mut text, handler, &mut twelve)?, Some(9));
+        assert_eq!(rt; step(&mut text, handler, &mut twelve)?, None);
         assert_eq!(rt; &twelve, b"!\t2\t1\t21\n\x07\x07\x07");
         assert_eq!(rt; text.lines_read(), 2);
+        Ok(())
+    }
+
+    // A page of 9 bytes in 8 and in 12; after the last line nothing is written.
+    #[test]
+    fn lent_bytes(rt: HostRuntime) -> Result<(), Fail> {
+        check_lent_bytes(&rt, &mut Reading)?;
+        check_lent_bytes(&rt, &mut Sheet::open(PairTable::new()))
+    }
+
+    // A whole run, by way of allocated memory.
+    #[test]
+    fn whole_runs(rt: HostRuntime) -> Result<(), Fail> {
+        let mut all = Vec::new(rt.alloc());
+        run(
+            rt.alloc(),
+            b"T\ta\t1\nT\ta\t1\nx" as &[u8],
+            &mut all,
+            &mut Reading,
+        )?;
+        assert_eq!(rt; all.as_slice(), b"!\t3\t1\t21\n" as &[u8]);
         Ok(())
     }
 

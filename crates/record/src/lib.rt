@@ -6,7 +6,7 @@ ghost use Rattle.refusal.specs.Answers.{seen};
 ghost use Rattle.text.specs.Cuts.{fields};
 ghost use Rattle.record.specs.Records.{kind_of, two_fields, part, part_at, two_names, name_and_time, meant, asked_by, fields_by, record_of, Parts};
 
-use field::{Letter, read_letter, read_name, read_time, read_workers};
+use field::{Field, Letter};
 use refusal::{FieldFault, LineFault};
 use text::cut_field;
 
@@ -37,16 +37,20 @@ pub enum Record<'a> {
     P { workers: usize, letter: Letter },
 }
 
-fn read_kind(letter: char) -> Result<Kind, LineFault>
-    ensures { result ≡ kind_of letter }
-{
-    match letter {
-        'T' => Ok(Kind::Task),
-        'N' => Ok(Kind::Need),
-        'D' => Ok(Kind::Drop),
-        'R' => Ok(Kind::Retime),
-        'P' => Ok(Kind::Plan),
-        _ => Err(LineFault::Letter),
+impl TryFrom<char> for Kind {
+    type Error = LineFault;
+
+    ghost try_from_gives = { λ c r. r ≡ kind_of c };
+
+    fn try_from(letter: char) -> Result<Kind, LineFault> {
+        match letter {
+            'T' => Ok(Kind::Task),
+            'N' => Ok(Kind::Need),
+            'D' => Ok(Kind::Drop),
+            'R' => Ok(Kind::Retime),
+            'P' => Ok(Kind::Plan),
+            _ => Err(LineFault::Letter),
+        }
     }
 }
 
@@ -55,18 +59,35 @@ fn read_head(line: &[u8]) -> Result<(Kind, &[u8]), LineFault>
     ensures { MatchResult result (λ p. record_of line.now ≡ fields_by p.0 (fields p.1.now)) (λ e. record_of line.now ≡ Err e) }
 {
     match line {
-        [letter, b'\t', rest @ ..] => Ok((read_kind(char::from(*letter))?, rest)),
+        [letter, b'\t', rest @ ..] => Ok((Kind::try_from(char::from(*letter))?, rest)),
         [letter] => {
-            read_kind(char::from(*letter))?;
+            Kind::try_from(char::from(*letter))?;
             Err(LineFault::FieldCount)
         }
         _ => Err(LineFault::Letter),
     }
 }
 
+// A name, `at` bytes into its line.
+fn read_part<'a>(field: Field<'a>, at: usize) -> Result<Part<'a>, FieldFault>
+    ensures { seen part result ≡ part_at field.entry.place at field.entry.bytes.now }
+{
+    Ok(Part {
+        bytes: field.name()?,
+        at,
+    })
+}
+
+// The two fields after a record's letter, as bytes.
+#[derive(Clone, Copy)]
+struct Fields<'a> {
+    first: &'a [u8],
+    second: &'a [u8],
+}
+
 // Exactly two fields.
-fn read_two(rest: &[u8]) -> Result<(&[u8], &[u8]), LineFault>
-    ensures { seen (λ p. (p.0.now, p.1.now)) result ≡ two_fields (fields rest.now) }
+fn read_two(rest: &[u8]) -> Result<Fields<'_>, LineFault>
+    ensures { seen (λ f. (f.first.now, f.second.now)) result ≡ two_fields (fields rest.now) }
 {
     let (first, after) = cut_field(rest);
     let [_, more @ ..] = after else {
@@ -76,60 +97,64 @@ fn read_two(rest: &[u8]) -> Result<(&[u8], &[u8]), LineFault>
     if !end.is_empty() {
         return Err(LineFault::FieldCount);
     }
-    Ok((first, second))
+    Ok(Fields { first, second })
 }
 
-// A name, `at` bytes into its line.
-fn read_part(bytes: &[u8], at: usize, field: u8) -> Result<Part<'_>, FieldFault>
-    ensures { seen part result ≡ part_at field at bytes.now }
-{
-    Ok(Part {
-        bytes: read_name(bytes, field)?,
-        at,
-    })
-}
+impl<'a> Fields<'a> {
+    fn first(self) -> Field<'a>
+        ensures { (result.place ≡ 2) × (result.bytes.now ≡ self.entry.first.now) }
+    {
+        Field::new(2, self.first)
+    }
 
-fn read_two_names<'a>(first: &'a [u8], second: &'a [u8]) -> Result<(Part<'a>, Part<'a>), FieldFault>
-    ensures { seen (λ p. (part p.0, part p.1)) result ≡ two_names first.now second.now }
-{
-    let task = read_part(first, 2, 2)?;
-    let need = read_part(second, 3 + first.len(), 3)?;
-    Ok((task, need))
-}
+    fn second(self) -> Field<'a>
+        ensures { (result.place ≡ 3) × (result.bytes.now ≡ self.entry.second.now) }
+    {
+        Field::new(3, self.second)
+    }
 
-fn read_name_and_time<'a>(first: &'a [u8], second: &[u8]) -> Result<(Part<'a>, u64), FieldFault>
-    ensures { seen (λ p. (part p.0, p.1)) result ≡ name_and_time first.now second.now }
-{
-    let name = read_part(first, 2, 2)?;
-    let time = read_time(second, 3)?;
-    Ok((name, time))
-}
+    fn names(self) -> Result<(Part<'a>, Part<'a>), FieldFault>
+        ensures { seen (λ p. (part p.0, part p.1)) result ≡ two_names self.entry.first.now self.entry.second.now }
+    {
+        let task = read_part(self.first(), 2)?;
+        let need = read_part(self.second(), 3 + self.first.len())?;
+        Ok((task, need))
+    }
 
-// A record of a kind, from its two fields.
-fn read_fields<'a>(kind: Kind, first: &'a [u8], second: &'a [u8]) -> Result<Record<'a>, FieldFault>
-    ensures { seen meant result ≡ asked_by kind first.now second.now }
-{
-    match kind {
-        Kind::Task => {
-            let (name, time) = read_name_and_time(first, second)?;
-            Ok(Record::T { name, time })
-        }
-        Kind::Need => {
-            let (task, need) = read_two_names(first, second)?;
-            Ok(Record::N { task, need })
-        }
-        Kind::Drop => {
-            let (task, need) = read_two_names(first, second)?;
-            Ok(Record::D { task, need })
-        }
-        Kind::Retime => {
-            let (name, time) = read_name_and_time(first, second)?;
-            Ok(Record::R { name, time })
-        }
-        Kind::Plan => {
-            let workers = read_workers(first, 2)?;
-            let letter = read_letter(second, 3)?;
-            Ok(Record::P { workers, letter })
+    fn name_and_time(self) -> Result<(Part<'a>, u64), FieldFault>
+        ensures { seen (λ p. (part p.0, p.1)) result ≡ name_and_time self.entry.first.now self.entry.second.now }
+    {
+        let name = read_part(self.first(), 2)?;
+        let time = self.second().time()?;
+        Ok((name, time))
+    }
+
+    // A record of a kind.
+    fn record(self, kind: Kind) -> Result<Record<'a>, FieldFault>
+        ensures { seen meant result ≡ asked_by kind self.entry.first.now self.entry.second.now }
+    {
+        match kind {
+            Kind::Task => {
+                let (name, time) = self.name_and_time()?;
+                Ok(Record::T { name, time })
+            }
+            Kind::Need => {
+                let (task, need) = self.names()?;
+                Ok(Record::N { task, need })
+            }
+            Kind::Drop => {
+                let (task, need) = self.names()?;
+                Ok(Record::D { task, need })
+            }
+            Kind::Retime => {
+                let (name, time) = self.name_and_time()?;
+                Ok(Record::R { name, time })
+            }
+            Kind::Plan => {
+                let workers = self.first().workers()?;
+                let letter = self.second().letter()?;
+                Ok(Record::P { workers, letter })
+            }
         }
     }
 }
@@ -140,6 +165,5 @@ pub fn read_record(line: &[u8]) -> Result<Record<'_>, LineFault>
     ensures parts { IfOk result (λ p. Parts line.now (meant p)) }
 {
     let (kind, rest) = read_head(line)?;
-    let (first, second) = read_two(rest)?;
-    Ok(read_fields(kind, first, second)?)
+    Ok(read_two(rest)?.record(kind)?)
 }

@@ -5,8 +5,9 @@
 // the step that carries the line out. The table of numbers is `specs/Table.antt`.
 #![tactic(auto)]
 
-ghost use Rattle.std.specs.Prelude.{◌≡◌, Some, codes};
+ghost use Rattle.std.specs.Prelude.{◌≡◌, ℕ, Some, codes};
 ghost use Rattle.refusal.specs.Table.{flaw_number, store_number, field_refusal, line_refusal, store_refusal, sheet_refusal, text_refusal, step_refusal, page_refusal};
+ghost use Rattle.refusal.specs.declared.Refusal.{Refusal};
 ghost use Rattle.refusal.specs.declared.LineFault.TheVariants.{Field};
 ghost use Rattle.refusal.specs.declared.SheetFault.TheVariants as sheets;
 ghost use Rattle.refusal.specs.declared.TextFault.TheVariants.{Line};
@@ -95,6 +96,14 @@ pub struct Refusal {
     pub number: u8,
 }
 
+// A fault that is told by the line it stands in; one that stands in no line is told by line 0.
+pub trait Fault {
+    ghost told: { ℕ → Self → Refusal };
+
+    fn refusal(self, line: usize) -> Refusal
+        ensures { result ≡ told line self };
+}
+
 impl From<FieldFault> for LineFault {
     ghost from_gives = { λ f r. r ≡ Field f };
 
@@ -156,10 +165,10 @@ impl Flaw {
     }
 }
 
-impl FieldFault {
-    pub fn refusal(self, line: usize) -> Refusal
-        ensures { result ≡ field_refusal line self }
-    {
+impl Fault for FieldFault {
+    ghost told = { field_refusal };
+
+    fn refusal(self, line: usize) -> Refusal {
         Refusal {
             line,
             field: self.field,
@@ -168,10 +177,10 @@ impl FieldFault {
     }
 }
 
-impl LineFault {
-    pub fn refusal(self, line: usize) -> Refusal
-        ensures { result ≡ line_refusal line self }
-    {
+impl Fault for LineFault {
+    ghost told = { line_refusal };
+
+    fn refusal(self, line: usize) -> Refusal {
         match self {
             LineFault::Letter => Refusal {
                 line,
@@ -199,10 +208,12 @@ impl StoreFault {
             StoreFault::Absent => 37,
         }
     }
+}
 
-    pub fn refusal(self, line: usize) -> Refusal
-        ensures { result ≡ store_refusal line self }
-    {
+impl Fault for StoreFault {
+    ghost told = { store_refusal };
+
+    fn refusal(self, line: usize) -> Refusal {
         Refusal {
             line,
             field: 0,
@@ -211,10 +222,10 @@ impl StoreFault {
     }
 }
 
-impl SheetFault {
-    pub fn refusal(self, line: usize) -> Refusal
-        ensures { result ≡ sheet_refusal line self }
-    {
+impl Fault for SheetFault {
+    ghost told = { sheet_refusal };
+
+    fn refusal(self, line: usize) -> Refusal {
         match self {
             SheetFault::Field(fault) => fault.refusal(line),
             SheetFault::Known => Refusal {
@@ -242,10 +253,10 @@ impl SheetFault {
     }
 }
 
-impl TextFault {
-    pub fn refusal(self, line: usize) -> Refusal
-        ensures { result ≡ text_refusal line self }
-    {
+impl Fault for TextFault {
+    ghost told = { text_refusal };
+
+    fn refusal(self, line: usize) -> Refusal {
         match self {
             TextFault::TooLong => Refusal {
                 line: 0,
@@ -257,10 +268,10 @@ impl TextFault {
     }
 }
 
-impl StepFault {
-    pub fn refusal(self, line: usize) -> Refusal
-        ensures { result ≡ step_refusal line self }
-    {
+impl Fault for StepFault {
+    ghost told = { step_refusal };
+
+    fn refusal(self, line: usize) -> Refusal {
         match self {
             StepFault::Line(fault) => fault.refusal(line),
             StepFault::Sheet(fault) => fault.refusal(line),

@@ -1,45 +1,44 @@
--- A step: the next line of a text, answered by its page.
+-- A step: the next line of a text, handled and answered by its page.
 use Rattle.std.specs.Prelude.{◌≡◌, ℕ, ◌+◌, ◌<◌, List, [], ◌∷◌, length, Some, None, Ok, Err, Option, Result}
-use Rattle.refusal.specs.Answers.{then, within}
-use Rattle.refusal.specs.Table.{text_refusal}
 use Rattle.refusal.specs.declared.PageFault.{PageFault}
 use Rattle.refusal.specs.declared.PageFault.TheVariants.{Short}
-use Rattle.refusal.specs.declared.TextFault.{TextFault}
-use Rattle.refusal.specs.declared.TextFault.TheVariants.{Line}
-use Rattle.record.specs.Records.{record_of}
+use Rattle.refusal.specs.declared.Refusal.{Refusal}
 use Rattle.text.specs.Texts.{lines_left, lines_read_of, NextLine}
 use Rattle.text.specs.declared.Text.{Text}
 use Rattle.page.specs.Refusals.{refusal_page}
 use Rattle.page.specs.Writing.{Front}
 
--- the answer to a line: a good record is granted
-abbrev pub answer_to : List ℕ → Result (Unit {0}) TextFault
-answer_to s = within Line (then (record_of s) (λ _. Ok tt))
+-- how lines are handled: what a fault is told by in a line, what the book answers to a line, and the book after it
+pub record Handling (B F : Type 0) : Type 0 where
+  pub told : ℕ → F → Refusal
+  pub answer : B → List ℕ → Result (Unit {0}) F
+  pub after : B → List ℕ → B
 
--- what an answer prints in line n: a refusal its page, a granted record nothing
-abbrev pub printed : ℕ → Result (Unit {0}) TextFault → List ℕ
-printed n (Ok x) = []
-printed n (Err f) = refusal_page (text_refusal n f)
+-- what an answer prints in line n: a refusal its page, a granted line nothing
+abbrev pub printed : {F : Type 0} → (ℕ → F → Refusal) → ℕ → Result (Unit {0}) F → List ℕ
+printed told n (Ok x) = []
+printed told n (Err f) = refusal_page (told n f)
 
--- the page of the line s, which is the n-th
-abbrev pub page_of : ℕ → List ℕ → List ℕ
-page_of n s = printed n (answer_to s)
+-- the page of the line s, which is the n-th, upon the book b
+abbrev pub page_of : {B F : Type 0} → Handling B F → ℕ → B → List ℕ → List ℕ
+page_of h n b s = printed h.told n (h.answer b s)
 
--- the next line of t was answered in the first n of the lent bytes d, which left e, and t' goes on after it
-pub record Answered (t t' : Text) (d e : List ℕ) (n : ℕ) : Type 0 where
+-- the next line of t was handled upon the book b, which left b', and answered in the first n of the lent bytes d, which left e; t' goes on after it
+pub record Answered {B F : Type 0} (h : Handling B F) (t t' : Text) (b b' : B) (d e : List ℕ) (n : ℕ) : Type 0 where
   pub line : List ℕ
   pub next : NextLine t line t'
-  pub page : Front (page_of (lines_read_of t') line) n d e
+  pub book : b' ≡ h.after b line
+  pub page : Front (page_of h (lines_read_of t') b line) n d e
 
 -- the page of the next line has more bytes than d
-pub record TooShort (t : Text) (d : List ℕ) : Type 0 where
+pub record TooShort {B F : Type 0} (h : Handling B F) (t : Text) (b : B) (d : List ℕ) : Type 0 where
   pub line : List ℕ
   pub later : List (List ℕ)
   pub order : lines_left t ≡ line ∷ later
-  pub short : length d < length (page_of (lines_read_of t + 1) line)
+  pub short : length d < length (page_of h (lines_read_of t + 1) b line)
 
--- a step upon t with d lent, which left t' and e: it answered the next line, or no line is left, or it is refused; in the last two cases all is as it was
-abbrev pub Stepped : Text → Text → List ℕ → List ℕ → Result (Option ℕ) PageFault → Type 0
-Stepped t t' d e (Ok (Some n)) = Answered t t' d e n
-Stepped t t' d e (Ok None) = (lines_left t ≡ []) × (t' ≡ t) × (e ≡ d)
-Stepped t t' d e (Err Short) = TooShort t d × (t' ≡ t) × (e ≡ d)
+-- a step upon t and the book b with d lent, which left t', b' and e: it answered the next line, or no line is left, or it is refused; in the last two cases all is as it was
+abbrev pub Stepped : {B F : Type 0} → Handling B F → Text → Text → B → B → List ℕ → List ℕ → Result (Option ℕ) PageFault → Type 0
+Stepped h t t' b b' d e (Ok (Some n)) = Answered h t t' b b' d e n
+Stepped h t t' b b' d e (Ok None) = (lines_left t ≡ []) × (t' ≡ t) × (b' ≡ b) × (e ≡ d)
+Stepped h t t' b b' d e (Err Short) = TooShort h t b d × (t' ≡ t) × (b' ≡ b) × (e ≡ d)

@@ -5,11 +5,11 @@
 #[cfg(test)]
 mod tests {
     use bit_rows::BitRows;
-    use execution::step;
     use needs::NeedStore;
     use pair_table::PairTable;
     use printing::print_pages;
-    use refusal::{PageFault, SheetFault, StoreFault};
+    use refusal::{Fault, PageFault, SheetFault, StoreFault};
+    use session::step;
     use sheet::{Request, Sheet};
     use std::alloc::Global;
     use std::process::Abort;

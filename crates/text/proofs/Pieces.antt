@@ -1,5 +1,5 @@
 -- Cuts at the first byte, at every byte, and the lines that they make.
-use Rattle.std.proofs.Common.{◌≡◌, ℕ, zero, suc, ◌+◌, ◌-◌, ◌<◌, ◌≤◌, Bool, true, false, cond, eqb, List, [], ◌∷◌, ◌++◌, length, get_or, take, drop, sym, refl, ap, ◌∙◌, subst, inl, inr, add-zero, arith}
+use Rattle.std.proofs.Common.{◌≡◌, ℕ, zero, suc, ◌-◌, ◌<◌, ◌≤◌, Bool, true, false, cond, eqb, List, [], ◌∷◌, ◌++◌, length, get_or, take, drop, sym, refl, ap, ◌∙◌, subst, inl, inr, add-zero, arith}
 use Rattle.std.specs.Str.Iter.{LacksByte}
 use Rattle.std.specs.List.{join_with_byte}
 use Rattle.std.proofs.lemmas.List.{append-nil, take-append-drop, length-take-le, get_or-take, get_or-drop, get_or_default, get_or_past, take_all}
@@ -110,7 +110,7 @@ few_more false c n [] h l = absurd (omega arith)
 few_more false c n (p ∷ []) h l = omega arith
 few_more false c n (p ∷ (q ∷ ps)) h l = omega arith
 
-few_lines : (s : List ℕ) → length (lines s) ≤ length s
+pub few_lines : (s : List ℕ) → length (lines s) ≤ length s
 few_lines [] = omega arith
 few_lines (c ∷ s) = few_more (eqb c 10) c (length s) (pieces 10 s) (pieces_some 10 s) (few_lines s)
 
@@ -135,15 +135,3 @@ lined_some (c ∷ s) = lined_step c (eqb c 10) refl (lined_some s).1
 
 pub lined_lines : (s : List ℕ) → Lined s (lines s)
 lined_lines s = let r = lined_some s in subst (λ ls. Lined s ls) (lined_one r.1) r.1
-
--- at most m lines are read, n of them so far: none is left, one more is read, all are left
-pub left_none : (m n : ℕ) (ls : List (List ℕ)) → ls ≡ [] → take (m - n) ls ≡ []
-left_none m n ls e = ap (take (m - n)) e ∙ take_all (m - n) [] (omega arith)
-
-pub left_more : (m n : ℕ) (l : List ℕ) (ls ms : List (List ℕ)) → n < m → ls ≡ l ∷ ms → take (m - n) ls ≡ l ∷ take (m - (n + 1)) ms
-left_more m n l ls ms h e =
-    let k : m - n ≡ suc (m - (n + 1)) = omega arith in
-    ap (take (m - n)) e ∙ ap (λ j. take j (l ∷ ms)) k
-
-pub left_all : (m : ℕ) (s : List ℕ) → length s ≤ m → take m (lines s) ≡ lines s
-left_all m s h = take_all m (lines s) (let f = few_lines s in omega arith)

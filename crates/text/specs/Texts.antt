@@ -1,5 +1,5 @@
 -- A text that is read line by line.
-use Rattle.std.specs.Prelude.{◌≡◌, ℕ, ◌+◌, ◌-◌, ◌≤◌, List, ◌∷◌, length, take}
+use Rattle.std.specs.Prelude.{◌≡◌, ℕ, ◌+◌, ◌≤◌, List, ◌∷◌, length}
 use Rattle.text.specs.Cuts.{lines, Lined}
 use Rattle.text.specs.declared.Text.{Text}
 
@@ -9,9 +9,8 @@ longest_text = 65536
 abbrev pub lines_read_of : Text → ℕ
 lines_read_of t = t.lines_read
 
--- of a text no more lines are read than it may have bytes, and it has no more
 abbrev pub lines_left : Text → List (List ℕ)
-lines_left t = take (longest_text - t.lines_read) (lines t.rest.now)
+lines_left t = lines t.rest.now
 
 -- the text of the bytes s, just opened: no line is read, and what is left are its lines, by their law and no others
 pub record Opened (s : List ℕ) (t : Text) : Type 0 where

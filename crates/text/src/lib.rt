@@ -1,10 +1,9 @@
 // A text cut into lines, a line into fields, and a text read line by line.
 #![tactic(auto)]
 
-ghost use Rattle.std.specs.Prelude.{◌≡◌, ℕ, ◌<◌, ◌≤◌, [], length, MatchOption, MatchResult, ◌≢◌, slice_index};
+ghost use Rattle.std.specs.Prelude.{◌≡◌, ℕ, ◌+◌, ◌<◌, ◌≤◌, [], length, MatchOption, MatchResult, ◌≢◌, slice_index};
 ghost use Rattle.refusal.specs.declared.TextFault.TheVariants.{TooLong};
-ghost use Rattle.text.specs.Cuts.{Cut, FirstLine};
-ghost use Rattle.text.specs.Texts.{longest_text, lines_left, lines_read_of, Opened, NextLine};
+ghost use Rattle.text.specs.Cuts.{Cut, FirstLine, lines};
 
 use refusal::TextFault;
 
@@ -16,12 +15,7 @@ fn find(bytes: &[u8], byte: u8) -> usize
     ensures before { (k : ℕ) → k < result → slice_index bytes.now k ≢ byte }
     ensures found { result < length bytes.now → slice_index bytes.now result ≡ byte }
 {
-    for (i, b) in bytes.iter().enumerate() {
-        if *b == byte {
-            return i;
-        }
-    }
-    bytes.len()
+    bytes.iter().position(|b| *b == byte).unwrap_or(bytes.len())
 }
 
 // What stands before the first `byte`, and what stands from it on.
@@ -65,9 +59,12 @@ pub fn cut_line(text: &[u8]) -> Option<(&[u8], &[u8])>
 pub struct Text<'a> {
     rest: &'a [u8],
     lines_read: usize,
+    ghost few: { length (lines rest.now) + lines_read ≤ 65536 },
 }
 
 impl<'a> Text<'a> {
+    ghost use Rattle.text.specs.Texts.{longest_text, lines_left, lines_read_of, Opened, NextLine};
+
     fn start(bytes: &'a [u8]) -> Text<'a>
         requires { length bytes.now ≤ longest_text }
         ensures { Opened bytes.now result }
@@ -94,29 +91,16 @@ impl<'a> Text<'a> {
         self.lines_read
     }
 
-    // The next line, and the text after it.
-    fn split(self) -> Option<(&'a [u8], Text<'a>)>
-        ensures { MatchOption result (lines_left self.entry ≡ []) (λ p. NextLine self.entry p.0.now p.1) }
-    {
-        let Text { rest, lines_read } = self;
-        // A text has no more lines than bytes.
-        if lines_read >= LONGEST_TEXT {
-            return None;
-        }
-        let (line, rest) = cut_line(rest)?;
-        let after = Text {
-            rest,
-            lines_read: lines_read + 1,
-        };
-        Some((line, after))
-    }
-
     // The next line, or none after the last.
     pub fn next_line(&mut self) -> Option<&'a [u8]>
         ensures { MatchOption result ((lines_left self.old ≡ []) × (self.new ≡ self.old)) (λ l. NextLine self.old l.now self.new) }
     {
-        let (line, after) = self.split()?;
-        *self = after;
+        let Text { rest, lines_read } = *self;
+        let (line, rest) = cut_line(rest)?;
+        *self = Text {
+            rest,
+            lines_read: lines_read + 1,
+        };
         Some(line)
     }
 }

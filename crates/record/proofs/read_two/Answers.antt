@@ -1,5 +1,5 @@
 use Rattle.std.proofs.Common.{rules}
-use Rattle.record.proofs.Heads.{two_short, two_good, two_long}
+use Rattle.record.proofs.TwoFields.{two_short, two_good, two_long}
 use Rattle.record.proofs.read_two.Goals as goal
 
 pub returns-in_default : goal.returns-in_default

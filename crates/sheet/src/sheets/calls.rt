@@ -11,7 +11,7 @@ ghost use Rattle.sheet.specs.Sheets.{book_of};
 use crate::request::Request;
 use crate::sheets::Sheet;
 use crate::tasks::Tasks;
-use field::{check_time, read_name};
+use field::{Field, check_time};
 use needs::NeedStore;
 use refusal::SheetFault;
 
@@ -33,7 +33,7 @@ impl<S: NeedStore> Sheet<S> {
         ensures book { book_of S.has S.places self.new ≡ after (book_of S.has S.places self.old) (enter_task name.now time) }
         ensures kept { OnErr result (book_of S.has S.places self.new ≡ book_of S.has S.places self.old) }
     {
-        let name = read_name(name, 2)?;
+        let name = Field::new(2, name).name()?;
         let time = check_time(time, 3)?;
         let place = self.tasks.room_for(name)?;
         self.tasks.add(place, name, time);
@@ -46,8 +46,8 @@ impl<S: NeedStore> Sheet<S> {
         ensures book { book_of S.has S.places self.new ≡ after (book_of S.has S.places self.old) (enter_need task.now need.now) }
         ensures kept { OnErr result (book_of S.has S.places self.new ≡ book_of S.has S.places self.old) }
     {
-        let task = read_name(task, 2)?;
-        let need = read_name(need, 3)?;
+        let task = Field::new(2, task).name()?;
+        let need = Field::new(3, need).name()?;
         let a = self.tasks.number(task, 2)?;
         let b = self.tasks.number(need, 3)?;
         if a == b {
@@ -63,8 +63,8 @@ impl<S: NeedStore> Sheet<S> {
         ensures book { book_of S.has S.places self.new ≡ after (book_of S.has S.places self.old) (drop_need task.now need.now) }
         ensures kept { OnErr result (book_of S.has S.places self.new ≡ book_of S.has S.places self.old) }
     {
-        let task = read_name(task, 2)?;
-        let need = read_name(need, 3)?;
+        let task = Field::new(2, task).name()?;
+        let need = Field::new(3, need).name()?;
         let a = self.tasks.number(task, 2)?;
         let b = self.tasks.number(need, 3)?;
         self.store.remove(a, b)?;
@@ -78,7 +78,7 @@ impl<S: NeedStore> Sheet<S> {
         ensures kept { OnErr result (book_of S.has S.places self.new ≡ book_of S.has S.places self.old) }
         ensures others { Others (book_of S.has S.places self.old).tasks (book_of S.has S.places self.new).tasks name.now }
     {
-        let name = read_name(name, 2)?;
+        let name = Field::new(2, name).name()?;
         let time = check_time(time, 3)?;
         let number = self.tasks.number(name, 2)?;
         self.tasks.set_time(number, time);
