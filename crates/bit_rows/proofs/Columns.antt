@@ -1,8 +1,9 @@
 -- The columns of a row within one word.
-use Rattle.std.proofs.Common.{◌≡◌, ℕ, ◌+◌, ◌-◌, ◌*◌, ◌/◌, ◌%◌, ◌^◌, ◌<◌, ◌≤◌, true, List, get_or, sym, ap, ◌∙◌, arith}
+use Rattle.std.proofs.Common.{◌≡◌, ℕ, ◌+◌, ◌-◌, ◌*◌, ◌/◌, ◌%◌, ◌^◌, ◌<◌, ◌≤◌, true, List, Option, Some, None, get_or, sym, ap, ◌∙◌, arith}
+use Rattle.std.specs.Option.{option_map}
 use Rattle.std.proofs.lemmas.Bool.{lt-ltb}
-use Rattle.needs.specs.Pairs.{limit}
-use Rattle.bit_rows.specs.Rows.{word_bit, row_bit}
+use Rattle.needs.specs.Pairs.{limit, Next}
+use Rattle.bit_rows.specs.Rows.{word_bit, row_bit, NextBelow}
 use Rattle.bit_rows.proofs.Words.{shifted_bit, set_below}
 
 -- the word of a column, shifted down so that the column is its bit 0
@@ -24,3 +25,15 @@ column_at row from n h l u =
 pub column_below : (row : List ℕ) (from j : ℕ) → get_or row (from / 64) 0 < 2 ^ 64 → word_bit (word_from row from) j ≡ true → from % 64 + j < 64
 column_below row from j h e =
     set_below (get_or row (from / 64) 0) 64 (from % 64 + j) h (sym (shifted_bit (get_or row (from / 64) 0) (from % 64) j) ∙ e)
+
+-- the lowest bit of the shifted word is the least column
+pub word_next : (row : List ℕ) (from : ℕ) (r : Option ℕ) → from < limit → get_or row (from / 64) 0 < 2 ^ 64
+    → Next (word_bit (word_from row from)) 0 r → NextBelow (row_bit row) from ((from / 64 + 1) * 64) (option_map (λ j. from + j) r)
+word_next row from None h w none = λ n l u. column_at row from n h l u ∙ none (n - from) (omega arith)
+word_next row from (Some j) h w next =
+    let l : from % 64 + j < 64 = column_below row from j w next.1 in (
+      omega arith,
+      omega arith,
+      column_bit row from j h l ∙ next.1,
+      λ m q u. column_at row from m h q (omega arith) ∙ next.2 (m - from) (omega arith) (omega arith),
+    )

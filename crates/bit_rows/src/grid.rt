@@ -1,14 +1,17 @@
 // A grid of bits: 512 rows of 512 columns, each row in words of 64 bits.
-ghost use Rattle.std.specs.Prelude.{◌≡◌, ◌+◌, ◌*◌, ◌/◌, ◌<◌, true, not};
-ghost use Rattle.needs.specs.Pairs.{limit, no_pairs, with_pair, Next};
+ghost use Rattle.std.specs.Prelude.{◌≡◌, ◌+◌, ◌*◌, ◌/◌, ◌<◌, false, not, IfSome};
+ghost use Rattle.std.proofs.Common.{rules};
+ghost use Rattle.needs.specs.Pairs.{limit, no_pairs, with_pair, count, Next};
 ghost use Rattle.bit_rows.specs.Rows.{word_bit, row_bit, held, NextBelow};
 
-use needs::LIMIT;
+use needs::{LIMIT, PairSet};
+use refusal::StoreFault;
 
 const WORD: usize = 64;
 
 const WORDS: usize = LIMIT / WORD;
 
+// Row x has the pairs (x, y), so that the least of them is found by words, along the row.
 #[derive(Drop)]
 pub struct Grid {
     rows: [[u64; WORDS]; LIMIT],
@@ -22,14 +25,12 @@ fn bit(word: u64, k: usize) -> bool
 }
 
 // The lowest bit that is set.
+#[tactic(auto, using(crate::proofs::Lowest::lowest))]
 fn first_bit(word: u64) -> Option<usize>
-    ensures { Next (word_bit word) 0 result }
+    ensures least { Next (word_bit word) 0 result }
+    ensures inside { IfSome result (λ j. j < 64) }
 {
-    if word == 0 {
-        None
-    } else {
-        Some(word.trailing_zeros() as usize)
-    }
+    (word != 0).then(|| word.trailing_zeros() as usize)
 }
 
 // The least column that is set from `from` on, among those of one word with it.
@@ -37,57 +38,83 @@ fn next_in_word(row: &[u64; WORDS], from: usize) -> Option<usize>
     requires { from < limit }
     ensures { NextBelow (row_bit row.now) from ((from / 64 + 1) * 64) result }
 {
-    match first_bit(row[from / WORD] >> (from % WORD)) {
-        Some(j) => Some(from + j),
-        None => None,
-    }
+    first_bit(row[from / WORD] >> (from % WORD)).map(|j| from + j)
 }
 
 // The least column that is set from k on.
 fn next_column(row: &[u64; WORDS], k: usize) -> Option<usize>
     ensures { Next (row_bit row.now) k result }
 {
-    let mut from = k;
-    while from < LIMIT {
-        if let Some(b) = next_in_word(row, from) {
-            return Some(b);
+    for word in k / WORD..WORDS {
+        if let Some(y) = next_in_word(row, k.max(word * WORD)) {
+            return Some(y);
         }
-        from = (from / WORD + 1) * WORD;
     }
     None
 }
 
+fn no_bits() -> [[u64; WORDS]; LIMIT]
+    ensures { held result ≡ no_pairs }
+{
+    [[0; WORDS]; LIMIT]
+}
+
 impl Grid {
-    pub fn new() -> Grid
-        ensures { held result.rows ≡ no_pairs }
+    // Takes (x, y) out where it is in the set, and else puts it in, for which there is always a
+    // place.
+    fn flip(&mut self, x: usize, y: usize)
+        requires { (x < limit) × (y < limit) }
+        ensures set { held self.new.rows ≡ with_pair x y (not (held self.old.rows x y)) (held self.old.rows) }
+        ensures room { held self.old.rows x y ≡ false → count (held self.old.rows) < limit * limit }
     {
-        Grid {
-            rows: [[0; WORDS]; LIMIT],
+        self.rows[x][y / WORD] ^= 1 << (y % WORD);
+    }
+}
+
+impl PairSet for Grid {
+    ghost has = { λ s. held s.rows };
+
+    ghost places = { limit * limit };
+
+    ghost within = { unfold held in Prim.search rules };
+
+    ghost some_place = { Prim.search rules };
+
+    fn empty() -> Self {
+        Grid { rows: no_bits() }
+    }
+
+    fn insert(&mut self, x: usize, y: usize) -> Result<(), StoreFault> {
+        if x >= LIMIT || y >= LIMIT {
+            return Err(StoreFault::TooLarge);
         }
-    }
-
-    pub fn contains(&self, a: usize, b: usize) -> bool
-        ensures answer { result ≡ held self.now.rows a b }
-        ensures inside { result ≡ true → (a < limit) × (b < limit) }
-    {
-        a < LIMIT && b < LIMIT && bit(self.rows[a][b / WORD], b % WORD)
-    }
-
-    pub fn flip(&mut self, a: usize, b: usize)
-        requires { (a < limit) × (b < limit) }
-        ensures { held self.new.rows ≡ with_pair a b (not (held self.old.rows a b)) (held self.old.rows) }
-    {
-        self.rows[a][b / WORD] ^= 1 << (b % WORD);
-    }
-
-    // The least column of row a that is set from k on.
-    pub fn next(&self, a: usize, k: usize) -> Option<usize>
-        ensures { Next (λ b. held self.now.rows a b) k result }
-    {
-        if a < LIMIT {
-            next_column(&self.rows[a], k)
-        } else {
-            None
+        if self.contains(x, y) {
+            return Err(StoreFault::Present);
         }
+        self.flip(x, y);
+        Ok(())
+    }
+
+    #[tactic(auto, unfolding(crate::specs::Rows::held))]
+    fn remove(&mut self, x: usize, y: usize) -> Result<(), StoreFault> {
+        if !self.contains(x, y) {
+            return Err(StoreFault::Absent);
+        }
+        self.flip(x, y);
+        Ok(())
+    }
+
+    fn clear(&mut self) {
+        self.rows = no_bits();
+    }
+
+    #[tactic(auto, unfolding(crate::specs::Rows::held))]
+    fn contains(&self, x: usize, y: usize) -> bool {
+        x < LIMIT && y < LIMIT && bit(self.rows[x][y / WORD], y % WORD)
+    }
+
+    #[tactic(auto, unfolding(crate::specs::Rows::held))]
+    fn next(&self, x: usize, k: usize) -> Option<usize> {
+        self.rows.get(x).and_then(|row| next_column(row, k))
     }
 }

@@ -1,8 +1,8 @@
--- How many pairs a set has: one more, one less, none, and room for one.
-use Rattle.std.proofs.Common.{◌≡◌, ℕ, zero, suc, ◌+◌, ◌*◌, ◌<◌, ◌≤◌, Bool, true, false, Ok, sym, refl, ap, ⊎_elim, suc-mul, arith, lit<}
+-- How many pairs a set has: one more, one less, none, room for one, and as many with the pairs turned round.
+use Rattle.std.proofs.Common.{◌≡◌, ℕ, zero, suc, ◌+◌, ◌*◌, ◌<◌, ◌≤◌, Bool, true, false, sym, refl, ap, ◌∙◌, ⊎_elim, suc-mul, arith, lit<}
 use mathlib.Core.Path.{fun_ext}
-use Rattle.std.proofs.lemmas.Bool.{cases_eq, eq-eqb, ne_eqb, lt-leb}
-use Rattle.needs.specs.Pairs.{Pairs, with_pair, sum_below, one_if, count, no_pairs, put, limit}
+use Rattle.std.proofs.lemmas.Bool.{cases_eq, eq-eqb, ne_eqb}
+use Rattle.needs.specs.Pairs.{Pairs, with_pair, sum_below, one_if, count, no_pairs, limit, Mirrors}
 
 sum_same : (n : ℕ) (f g : ℕ → ℕ) → ((k : ℕ) → k < n → f k ≡ g k) → sum_below n f ≡ sum_below n g
 sum_same zero f g h = refl
@@ -86,10 +86,6 @@ pub count_without : (h : Pairs) (a b : ℕ) → a < limit → b < limit → h a 
 count_without h a b la lb e =
     count_one (with_pair a b false h) h a b la lb (with_here a b false h) e (with_row a b false h) (with_col a b false h)
 
--- a pair that is put in
-pub put_granted : (h : Pairs) (n a b : ℕ) → a < limit → b < limit → h a b ≡ false → count h < n → put h n a b ≡ Ok (with_pair a b true h)
-put_granted h n a b la lb e f = rw (lt-leb limit a la, lt-leb limit b lb, e, lt-leb n (count h) f)
-
 sum_none : (n : ℕ) (f : ℕ → ℕ) → ((k : ℕ) → f k ≡ 0) → sum_below n f ≡ 0
 sum_none zero f h = refl
 sum_none (suc n) f h = let i = sum_none n f h in let e = h n in omega arith
@@ -97,3 +93,19 @@ sum_none (suc n) f h = let i = sum_none n f h in let e = h n in omega arith
 pub count_none : count no_pairs ≡ 0
 unfolding count
 count_none = sum_none limit (λ a. sum_below limit (λ b. one_if false)) (λ a. sum_none limit (λ b. one_if false) (λ b. refl))
+
+sum_both : (n : ℕ) (f g : ℕ → ℕ) → sum_below n (λ k. f k + g k) ≡ sum_below n f + sum_below n g
+sum_both zero f g = refl
+sum_both (suc n) f g = let i = sum_both n f g in omega arith
+
+-- the order of two sums
+sum_turned : (n m : ℕ) (f : ℕ → ℕ → ℕ) → sum_below n (λ a. sum_below m (f a)) ≡ sum_below m (λ b. sum_below n (λ a. f a b))
+sum_turned zero m f = sym (sum_none m (λ b. 0) (λ b. refl))
+sum_turned (suc n) m f =
+    ap (λ s. s + sum_below m (f n)) (sum_turned n m f) ∙ sym (sum_both m (λ b. sum_below n (λ a. f a b)) (f n))
+
+pub count_mirrored : (h g : Pairs) → Mirrors h g → count g ≡ count h
+unfolding count
+count_mirrored h g m =
+    ap (λ (k : Pairs). sum_below limit (λ b. sum_below limit (λ a. one_if (k b a)))) (fun_ext (λ b. fun_ext (λ a. m a b)))
+    ∙ sum_turned limit limit (λ b a. one_if (h a b))

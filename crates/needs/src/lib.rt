@@ -6,6 +6,9 @@ ghost use Rattle.refusal.specs.Answers.{answered, leaves};
 ghost use Rattle.needs.specs.Pairs.{Within, no_pairs, put, take_out, Next};
 
 use refusal::StoreFault;
+pub use two_way::TwoWay;
+
+mod two_way;
 
 // The numbers of a store are below this.
 pub const LIMIT: usize = 512;
@@ -52,4 +55,42 @@ pub trait NeedStore {
     ghost within: { (s : Self) → Within (has s) };
 
     ghost some_place: { (s : Self) → 1 ≤ places s };
+}
+
+// One half of a store: a set of pairs that is asked for what stands with a first number. How many
+// places it has is a matter of the type, so that two halves have as many.
+pub trait PairSet {
+    // (x, y) is in the set.
+    ghost has: { Self → ℕ → ℕ → Bool };
+
+    // How many pairs it can hold.
+    ghost places: { ℕ };
+
+    fn empty() -> Self
+        ensures { has result ≡ no_pairs };
+
+    // Puts (x, y) into the set.
+    fn insert(&mut self, x: usize, y: usize) -> Result<(), StoreFault>
+        ensures answer { result ≡ answered (put (has self.old) places x y) }
+        ensures set { has self.new ≡ leaves (has self.old) (put (has self.old) places x y) };
+
+    // Takes (x, y) out of the set.
+    fn remove(&mut self, x: usize, y: usize) -> Result<(), StoreFault>
+        ensures answer { result ≡ answered (take_out (has self.old) x y) }
+        ensures set { has self.new ≡ leaves (has self.old) (take_out (has self.old) x y) };
+
+    // Leaves no pair in the set.
+    fn clear(&mut self)
+        ensures { has self.new ≡ no_pairs };
+
+    fn contains(&self, x: usize, y: usize) -> bool
+        ensures { result ≡ has self.now x y };
+
+    // The least y from k on with (x, y) in the set.
+    fn next(&self, x: usize, k: usize) -> Option<usize>
+        ensures { Next (λ y. has self.now x y) k result };
+
+    ghost within: { (s : Self) → Within (has s) };
+
+    ghost some_place: { 1 ≤ places };
 }

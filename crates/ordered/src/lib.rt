@@ -7,12 +7,10 @@ ghost use Rattle.std.specs.Prelude.{◌≡◌, ◌-◌, ◌∷◌, ◌++◌, len
 pub fn shift_up<T: Copy>(part: &mut [T], value: T)
     ensures { part.new ≡ take (length part.old) (value ∷ part.old) }
 {
-    if part.len() == 0 {
+    if part.is_empty() {
         return;
     }
-    for i in (1..part.len()).rev() {
-        part[i] = part[i - 1];
-    }
+    part.copy_within(..part.len() - 1, 1);
     part[0] = value;
 }
 
@@ -20,10 +18,8 @@ pub fn shift_up<T: Copy>(part: &mut [T], value: T)
 pub fn shift_down<T: Copy>(part: &mut [T])
     ensures { part.new ≡ drop 1 part.old ++ drop (length part.old - 1) part.old }
 {
-    if part.len() == 0 {
+    if part.is_empty() {
         return;
     }
-    for i in 0..part.len() - 1 {
-        part[i] = part[i + 1];
-    }
+    part.copy_within(1.., 0);
 }

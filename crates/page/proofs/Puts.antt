@@ -2,7 +2,7 @@
 use Rattle.std.proofs.Common.{◌≡◌, ℕ, ◌+◌, ◌≤◌, List, ◌++◌, length, take, drop, sym, ap, ◌∙◌, append_assoc, arith, length-append}
 use Rattle.std.proofs.lemmas.List.{drop-drop, take_at, drop_at, length-take-le}
 use Rattle.page.specs.Pages.{Puts}
-use Rattle.page.specs.Writing.{written, Put, Front}
+use Rattle.page.specs.Writing.{written, Put}
 use Rattle.page.specs.declared.Page.{Page}
 
 module _ (d s t : List ℕ) (i : ℕ) (h : i ≤ length d) where
@@ -34,7 +34,7 @@ module _ (d s t : List ℕ) (i : ℕ) (h : i ≤ length d) where
       ∙ ap (λ w. take i d ++ w) (sym (append_assoc s t (drop (i + length (s ++ t)) d)))
 
 -- one text after another
-pub put_then : {d e f s t : List ℕ} {i j k : ℕ} → Put d i e j s → Put e j f k t → Put d i f k (s ++ t)
+put_then : {d e f s t : List ℕ} {i j k : ℕ} → Put d i e j s → Put e j f k t → Put d i f k (s ++ t)
 put_then {d} {e} {f} {s} {t} {i} {j} {k} a b =
     let l = length-append s t in
     record {
@@ -49,18 +49,3 @@ put_then {d} {e} {f} {s} {t} {i} {j} {k} a b =
 
 pub puts_then : {p q r : Page} {s t : List ℕ} → Puts p q s → Puts q r t → Puts p r (s ++ t)
 puts_then a b = record { put = put_then a.put b.put; same = b.same ∙ a.same }
-
--- a text put at the front
-front_text : (d e s : List ℕ) (j : ℕ) → Put d 0 e j s → length s ≤ length d → j ≡ length s → (take j e ≡ s) × (drop j e ≡ drop j d)
-front_text d e s j w h n =
-    let p : e ≡ s ++ drop (0 + length s) d = w.text (omega arith) in
-    let q : length s ≡ j = omega arith in
-    (ap (take j) p ∙ take_at s (drop (0 + length s) d) j q, ap (drop j) p ∙ drop_at s (drop (0 + length s) d) j q ∙ ap (λ m. drop m d) (omega arith))
-
--- a text measured by putting it into other bytes, and then put into d, stands at the front
-pub measured_front : {m m' d e s : List ℕ} {n j : ℕ} → Put m 0 m' n s → n ≤ length d → Put d 0 e j s → Front s j d e
-measured_front {d = d} {e = e} {s = s} {j = j} p h q =
-    let fits : length s ≤ length d = omega (arith, p.next, q.room) in
-    let long : j ≡ length s = omega (arith, q.next, q.room) in
-    let f = front_text d e s j q fits long in
-    record { long = long; fits = omega (arith, q.long); text = f.0; rest = f.1 }

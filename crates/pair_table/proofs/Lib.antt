@@ -1,3 +1,2 @@
 pub mod Sets
 pub mod Places
-pub mod Changes

@@ -1,7 +1,9 @@
 // A need store of 4,096 pairs in fixed memory, kept in order by task and once more by need.
 #![tactic(auto)]
 
-mod sorted;
-mod table;
+use needs::TwoWay;
+pub use sorted::SortedPairs;
 
-pub use table::PairTable;
+mod sorted;
+
+pub type PairTable = TwoWay<SortedPairs>;

@@ -1,4 +1,3 @@
 pub mod Naming
 pub mod Looking
 pub mod Changing
-pub mod Living

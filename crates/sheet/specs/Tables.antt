@@ -1,17 +1,17 @@
 -- The tasks that the table holds, and where a name stands among theirs.
-use Rattle.std.specs.Prelude.{◌≡◌, ℕ, ◌<◌, true, List, take, Some, None, Result, MatchResult}
+use Rattle.std.specs.Prelude.{◌≡◌, ℕ, ◌<◌, true, List, length, Some, None, Result, MatchResult}
 use Rattle.ordered.specs.Order.{Parted}
 use Rattle.sheet.specs.Entries.{Entry, task, number_of}
 use Rattle.sheet.specs.NameOrder.{name_before}
-use Rattle.sheet.specs.Spelling.{entries_in}
+use Rattle.sheet.specs.Spelling.{entries_of}
 use Rattle.sheet.specs.declared.tasks.Tasks.{Tasks}
 
 abbrev pub entries : Tasks → List Entry
-entries t = entries_in t.count t.tasks
+entries t = entries_of t.tasks.items
 
 -- the numbers in the order of their names
 abbrev pub numbers : Tasks → List ℕ
-numbers t = take t.count t.by_name
+numbers t = t.by_name.items
 
 -- the name of task u comes before n
 abbrev pub Earlier : List Entry → List ℕ → ℕ → Type 0
@@ -28,4 +28,4 @@ Gap t n i = Parted (Earlier (entries t) n) (Later (entries t) n) (numbers t) i
 -- the number of the task of that name, or where its name would stand
 abbrev pub Found : Tasks → List ℕ → Result ℕ ℕ → Type 0
 Found t n r =
-    MatchResult r (λ u. (u < t.count) × (number_of (entries t) n ≡ Some u)) (λ i. (number_of (entries t) n ≡ None) × Gap t n i)
+    MatchResult r (λ u. (u < length (entries t)) × (number_of (entries t) n ≡ Some u)) (λ i. (number_of (entries t) n ≡ None) × Gap t n i)

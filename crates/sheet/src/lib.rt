@@ -1,7 +1,6 @@
 // A sheet of build tasks over any need store, and its life.
 #![tactic(auto)]
 
-mod name;
 mod request;
 mod sheets;
 mod task;

@@ -1,25 +1,112 @@
 // The tasks in order of entry, and their numbers in the order of their names: by halving a name is
 // found among them, and the order says how many names come before each.
-ghost use Rattle.std.specs.Prelude.{◌≡◌, ℕ, ◌<◌, ◌≤◌, true, length, take};
-ghost use Rattle.ordered.specs.Order.{holds, Each, Ordered};
-ghost use Rattle.sheet.specs.Entries.{task};
-ghost use Rattle.sheet.specs.Spelling.{entries_in, NamedBefore, Timed};
+ghost use Rattle.sheet.specs.Spelling.{entries_of, Indexes, Timed};
 
 use crate::task::Task;
+use arrayvec::ArrayVec;
+use refusal::SheetFault;
 
-pub const MOST_TASKS: usize = 512;
+const MOST_TASKS: usize = 512;
 
 #[derive(Drop)]
 pub struct Tasks {
-    tasks: [Task; MOST_TASKS],
-    by_name: [u16; MOST_TASKS],
-    count: usize,
-    ghost room: { count ≤ 512 },
-    ghost long: { (length tasks ≡ 512) × (length by_name ≡ 512) },
-    ghost timed: { Timed (entries_in count tasks) },
-    ghost numbers: { Each (λ u. u < count) (take count by_name) },
-    ghost named: { Ordered (NamedBefore (entries_in count tasks)) (take count by_name) },
-    ghost whole: { (u : ℕ) → u < count → holds (take count by_name) u ≡ true },
+    tasks: ArrayVec<Task, MOST_TASKS>,
+    by_name: ArrayVec<u16, MOST_TASKS>,
+    ghost timed: { Timed (entries_of tasks.items) },
+    ghost indexed: { Indexes (entries_of tasks.items) by_name.items },
 }
 
-pub mod calls;
+impl Tasks {
+    ghost use Rattle.std.specs.Prelude.{◌≡◌, ℕ, ◌<◌, ◌≤◌, List, [], ◌∷◌, ◌++◌, length, IfOk, Some};
+    ghost use Rattle.std.specs.Option.{option_map};
+    ghost use Rattle.refusal.specs.Answers.{answered};
+    ghost use Rattle.field.specs.Numbers.{longest_time};
+    ghost use Rattle.sheet.specs.Book.{room_for, named_at};
+    ghost use Rattle.sheet.specs.Entries.{entry, task, number_of, numbered, retimed, Others};
+    ghost use Rattle.sheet.specs.Tables.{entries, Gap, Found};
+
+    pub fn new() -> Tasks
+        ensures { entries result ≡ [] }
+    {
+        Tasks {
+            tasks: ArrayVec::new(),
+            by_name: ArrayVec::new(),
+        }
+    }
+
+    pub fn len(&self) -> usize
+        ensures { result ≡ length (entries self.now) }
+    {
+        self.tasks.len()
+    }
+
+    // The number of the task of this name, or where its name would stand.
+    pub fn find(&self, name: &[u8]) -> Result<usize, usize>
+        ensures { Found self.now name.now result }
+    {
+        self.by_name
+            .binary_search_by(|number| self.spelling(*number).cmp(&name))
+            .map(|place| self.by_name[place] as usize)
+    }
+
+    // The name of a task; past the last, none.
+    fn spelling(&self, number: u16) -> &[u8]
+        ensures { result.now ≡ (task (entries self.now) number).name }
+    {
+        self.name(number as usize).unwrap_or(&[])
+    }
+
+    pub fn name(&self, number: usize) -> Option<&[u8]>
+        ensures { option_map (λ x. x.now) result ≡ option_map (λ t. t.name) (numbered (entries self.now) number) }
+    {
+        self.tasks.get(number).map(|task| task.name.as_slice())
+    }
+
+    pub fn time(&self, number: usize) -> Option<u64>
+        ensures { result ≡ option_map (λ t. t.time) (numbered (entries self.now) number) }
+    {
+        self.tasks.get(number).map(|task| task.time)
+    }
+
+    // Where a new task's name would stand.
+    pub fn room_for(&self, name: &[u8]) -> Result<usize, SheetFault>
+        ensures answer { answered result ≡ room_for (entries self.now) name.now }
+        ensures place { IfOk result (λ i. (length (entries self.now) < 512) × Gap self.now name.now i) }
+    {
+        match self.find(name) {
+            Ok(_) => Err(SheetFault::Known),
+            Err(_) if self.tasks.is_full() => Err(SheetFault::NoRoom),
+            Err(place) => Ok(place),
+        }
+    }
+
+    // The number of the task whose name stands in a field.
+    pub fn number(&self, name: &[u8], field: u8) -> Result<usize, SheetFault>
+        ensures value { result ≡ named_at field (entries self.now) name.now }
+        ensures within { IfOk result (λ u. u < length (entries self.now)) }
+    {
+        self.find(name).map_err(|_| SheetFault::Unknown(field))
+    }
+
+    // One task more, its name put where it would stand.
+    pub fn add(&mut self, place: usize, name: &[u8], time: u64)
+        requires short { length name.now ≤ 24 }
+        requires room { length (entries self.old) < 512 }
+        requires timed { (1 ≤ time) × (time ≤ longest_time) }
+        requires gap { Gap self.old name.now place }
+        ensures { entries self.new ≡ entries self.old ++ (entry name.now time ∷ []) }
+    {
+        let number = self.tasks.len() as u16;
+        self.tasks.push(Task::new(name, time));
+        self.by_name.insert(place, number);
+    }
+
+    pub fn set_time(&mut self, number: usize, time: u64)
+        requires within { number < length (entries self.old) }
+        requires timed { (1 ≤ time) × (time ≤ longest_time) }
+        ensures tasks { entries self.new ≡ retimed (entries self.old) number time }
+        ensures others { (n : List ℕ) → number_of (entries self.old) n ≡ Some number → Others (entries self.old) (entries self.new) n }
+    {
+        self.tasks[number].time = time;
+    }
+}

@@ -12,6 +12,7 @@ mod tests {
     use session::step;
     use sheet::{Request, Sheet};
     use std::alloc::Global;
+    use std::io::Write;
     use std::process::Abort;
     use std::test::Fail;
     use text::Text;
@@ -20,13 +21,8 @@ mod tests {
 
     // The field and the number that an answer tells, or none where it is granted.
     fn told(answer: Result<(), SheetFault>) -> Option<(u8, u8)> {
-        match answer {
-            Ok(()) => None,
-            Err(fault) => {
-                let refusal = fault.refusal(0);
-                Some((refusal.field, refusal.number))
-            }
-        }
+        let refusal = answer.err()?.refusal(0);
+        Some((refusal.field, refusal.number))
     }
 
     fn enter(name: &[u8], time: u64) -> Request<'_> {
@@ -152,14 +148,8 @@ mod tests {
     }
 
     // t000 to t999.
-    fn name_of(number: usize) -> [u8; 4] {
-        let digit = b'0';
-        [
-            b't',
-            digit + (number / 100 % 10) as u8,
-            digit + (number / 10 % 10) as u8,
-            digit + (number % 10) as u8,
-        ]
+    fn name_of(heap: Global, number: usize) -> Result<String, Fail> {
+        Ok(format!(in heap; "t{number:03}")?)
     }
 
     // The k-th of 512 x 511 needs: the task k % 512 needs one of those after it, in a circle.
@@ -171,33 +161,48 @@ mod tests {
     // 512 tasks and 4,096 needs are taken; what is told of one more of each.
     fn fill<S: NeedStore>(
         rt: &impl Abort,
+        heap: Global,
         sheet: &mut Sheet<S>,
-    ) -> (Option<(u8, u8)>, Option<(u8, u8)>) {
+    ) -> Result<(Option<(u8, u8)>, Option<(u8, u8)>), Fail> {
         for number in 0..512 {
-            assert_eq!(rt; told(sheet.enter(&name_of(number), 1)), None);
+            let name = name_of(heap, number)?;
+            assert_eq!(rt; told(sheet.enter(name.as_bytes(), 1)), None);
         }
         for k in 0..PLACES {
-            let (task, need) = pair_of(k);
-            assert_eq!(rt; told(sheet.need(&name_of(task), &name_of(need))), None);
+            assert_eq!(rt; told(enter_pair(heap, sheet, k)?), None);
         }
-        let (task, need) = pair_of(PLACES);
-        (
+        Ok((
             told(sheet.enter(b"t512", 1)),
-            told(sheet.need(&name_of(task), &name_of(need))),
-        )
+            told(enter_pair(heap, sheet, PLACES)?),
+        ))
+    }
+
+    fn enter_pair<S: NeedStore>(
+        heap: Global,
+        sheet: &mut Sheet<S>,
+        k: usize,
+    ) -> Result<Result<(), SheetFault>, Fail> {
+        let (task, need) = pair_of(k);
+        let (task, need) = (name_of(heap, task)?, name_of(heap, need)?);
+        Ok(sheet.need(task.as_bytes(), need.as_bytes()))
     }
 
     #[test]
-    fn full_sheets(rt: HostRuntime) {
+    fn full_sheets(rt: HostRuntime) -> Result<(), Fail> {
+        let heap = rt.alloc();
         let mut sheet = Sheet::open(PairTable::new());
-        assert_eq!(rt; fill(&rt, &mut sheet), (Some((0, 32)), Some((0, 36))));
+        assert_eq!(rt;
+            fill(&rt, heap, &mut sheet)?,
+            (Some((0, 32)), Some((0, 36)))
+        );
         // A need that stands is told before a full store, and a drop makes room for one more.
         assert_eq!(rt; told(sheet.need(b"t000", b"t001")), Some((0, 35)));
         assert_eq!(rt; told(sheet.drop_need(b"t300", b"t301")), None);
         assert_eq!(rt; told(sheet.need(b"t000", b"t009")), None);
         assert_eq!(rt; told(sheet.need(b"t300", b"t301")), Some((0, 36)));
         let mut roomy = Sheet::open(BitRows::new());
-        assert_eq!(rt; fill(&rt, &mut roomy), (Some((0, 32)), None));
+        assert_eq!(rt; fill(&rt, heap, &mut roomy)?, (Some((0, 32)), None));
+        Ok(())
     }
 
     // The same by lines: the 513th task and the 4,097th need are refused.
@@ -205,17 +210,11 @@ mod tests {
     fn full_sheets_by_lines(rt: HostRuntime) -> Result<(), Fail> {
         let mut text = Vec::new(rt.alloc());
         for number in 0..513 {
-            text.extend_from_slice(b"T\t")?;
-            text.extend_from_slice(&name_of(number))?;
-            text.extend_from_slice(b"\t1\n")?;
+            writeln!(text, "T\tt{number:03}\t1")?;
         }
-        for k in 0..PLACES + 1 {
+        for k in 0..=PLACES {
             let (task, need) = pair_of(k);
-            text.extend_from_slice(b"N\t")?;
-            text.extend_from_slice(&name_of(task))?;
-            text.extend_from_slice(b"\t")?;
-            text.extend_from_slice(&name_of(need))?;
-            text.extend_from_slice(b"\n")?;
+            writeln!(text, "N\tt{task:03}\tt{need:03}")?;
         }
         text.extend_from_slice(b"D\tt300\tt301\nN\tt000\tt009\n")?;
         let mut sheet = Sheet::open(PairTable::new());
@@ -228,27 +227,24 @@ mod tests {
         )
     }
 
-    // The number that a store's answer tells, or 0 where it is granted.
-    fn number(answer: Result<(), StoreFault>) -> u8 {
-        match answer {
-            Ok(()) => 0,
-            Err(fault) => fault.number(),
-        }
+    // The number that a store's answer tells, or none where it is granted.
+    fn number(answer: Result<(), StoreFault>) -> Option<u8> {
+        answer.err().map(|fault| fault.number())
     }
 
     // A store by itself: its refusals in their order, and its questions at the edges.
     fn check_store<S: NeedStore>(rt: &impl Abort, store: &mut S) {
         for (a, b, expected) in [
-            (3, 64, 0),
-            (3, 64, 35),
-            (3, 63, 0),
-            (3, 511, 0),
-            (4, 64, 0),
-            (511, 64, 0),
-            (64, 3, 0),
-            (512, 0, 38),
-            (0, 512, 38),
-            (usize::MAX, usize::MAX, 38),
+            (3, 64, None),
+            (3, 64, Some(35)),
+            (3, 63, None),
+            (3, 511, None),
+            (4, 64, None),
+            (511, 64, None),
+            (64, 3, None),
+            (512, 0, Some(38)),
+            (0, 512, Some(38)),
+            (usize::MAX, usize::MAX, Some(38)),
         ] {
             assert_eq!(rt; number(store.insert(a, b)), expected);
         }
@@ -274,7 +270,12 @@ mod tests {
         ] {
             assert_eq!(rt; store.next_follower(b, k), expected);
         }
-        for (a, b, expected) in [(64, 4, 37), (512, 0, 37), (3, 64, 0), (3, 64, 37)] {
+        for (a, b, expected) in [
+            (64, 4, Some(37)),
+            (512, 0, Some(37)),
+            (3, 64, None),
+            (3, 64, Some(37)),
+        ] {
             assert_eq!(rt; number(store.remove(a, b)), expected);
         }
         assert_eq!(rt;

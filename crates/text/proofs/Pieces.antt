@@ -1,23 +1,10 @@
 -- Cuts at the first byte, at every byte, and the lines that they make.
-use Rattle.std.proofs.Common.{◌≡◌, ℕ, zero, suc, ◌-◌, ◌<◌, ◌≤◌, Bool, true, false, cond, eqb, List, [], ◌∷◌, ◌++◌, length, get_or, take, drop, sym, refl, ap, ◌∙◌, subst, inl, inr, add-zero, arith}
+use Rattle.std.proofs.Common.{◌≡◌, ℕ, zero, suc, ◌-◌, ◌<◌, ◌≤◌, Bool, true, false, cond, eqb, List, [], ◌∷◌, ◌++◌, length, take, drop, sym, refl, ap, ◌∙◌, subst, inl, inr, arith}
 use Rattle.std.specs.Str.Iter.{LacksByte}
 use Rattle.std.specs.List.{join_with_byte}
-use Rattle.std.proofs.lemmas.List.{append-nil, take-append-drop, length-take-le, get_or-take, get_or-drop, get_or_default, get_or_past, take_all}
-use Rattle.std.proofs.lemmas.Bool.{eq-eqb, ne_eqb, eqb-true, eqb-false, cases_lt}
+use Rattle.std.proofs.lemmas.List.{append-nil, take_all}
+use Rattle.std.proofs.lemmas.Bool.{eq-eqb, ne_eqb, eqb-true, eqb-false}
 use Rattle.text.specs.Cuts.{Cut, onto, pieces, unless_empty, ended, lines, FirstLine, Lined, none, last, more}
-
--- s cut at r, the place of its first b, or its length where it has none
-pub cut_at : (b r : ℕ) (s p q : List ℕ) → r ≤ length s → ((k : ℕ) → k < r → get_or s k 0 ≡ b → ⊥) → (r < length s → get_or s r 0 ≡ b)
-    → p ≡ take r s → q ≡ drop r s → Cut b s p q
-cut_at b r s p q h clear found front back =
-    let long : length p ≡ r = ap length front ∙ length-take-le r s h in
-    record {
-      whole = sym (take-append-drop r s) ∙ ap (λ w. w ++ drop r s) (sym front) ∙ ap (λ w. p ++ w) (sym back);
-      before = λ k l e. let kr : k < r = omega arith in clear k kr (sym (get_or-take r s k 0 kr) ∙ ap (λ w. get_or w k 0) (sym front) ∙ e);
-      stops =
-          ap (λ w. get_or w 0 b) back ∙ get_or-drop r s 0 b ∙ ap (λ n. get_or s n b) (add-zero r)
-          ∙ elim (cases_lt r (length s)) [ inl l ↦ get_or_default s r b 0 l ∙ found l | inr l ↦ get_or_past s r b l ];
-    }
 
 lacks_first : (b c : ℕ) (p : List ℕ) → LacksByte b (c ∷ p) → eqb c b ≡ false
 lacks_first b c p h = ne_eqb c b (h 0 (omega arith))

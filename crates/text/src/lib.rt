@@ -9,20 +9,12 @@ use refusal::TextFault;
 
 const LONGEST_TEXT: usize = 65_536;
 
-// Where the first `byte` stands, or the length where there is none.
-fn find(bytes: &[u8], byte: u8) -> usize
-    ensures within { result ≤ length bytes.now }
-    ensures before { (k : ℕ) → k < result → slice_index bytes.now k ≢ byte }
-    ensures found { result < length bytes.now → slice_index bytes.now result ≡ byte }
-{
-    bytes.iter().position(|b| *b == byte).unwrap_or(bytes.len())
-}
-
 // What stands before the first `byte`, and what stands from it on.
 fn cut(bytes: &[u8], byte: u8) -> (&[u8], &[u8])
     ensures { Cut byte bytes.now result.0.now result.1.now }
 {
-    bytes.split_at(find(bytes, byte))
+    let at = bytes.iter().position(|b| *b == byte);
+    bytes.split_at(at.unwrap_or(bytes.len()))
 }
 
 // The first field of a line, and what follows it: nothing, or a tab and more fields.
@@ -96,9 +88,9 @@ impl<'a> Text<'a> {
         ensures { MatchOption result ((lines_left self.old ≡ []) × (self.new ≡ self.old)) (λ l. NextLine self.old l.now self.new) }
     {
         let Text { rest, lines_read } = *self;
-        let (line, rest) = cut_line(rest)?;
+        let (line, after) = cut_line(rest)?;
         *self = Text {
-            rest,
+            rest: after,
             lines_read: lines_read + 1,
         };
         Some(line)

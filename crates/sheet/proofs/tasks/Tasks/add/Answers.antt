@@ -1,13 +1,18 @@
-use Rattle.std.proofs.Common.{refl, arith, rules}
-use Rattle.sheet.specs.declared.task.Task.{Task}
-use Rattle.sheet.proofs.Changing.{entries_more, table_more}
+use Rattle.std.proofs.Common.{◌≡◌, ◌∙◌, ap, arith, length}
+use Rattle.std.proofs.lemmas.List.{length-map}
+use Rattle.sheet.specs.Entries.{entry}
+use Rattle.sheet.specs.Spelling.{entry_of, entries_of}
+use Rattle.sheet.specs.Tables.{entries, numbers}
+use Rattle.sheet.proofs.Changing.{entries_more, timed_more, indexes_more}
 use Rattle.sheet.proofs.tasks.Tasks.add.Goals as goal
 
 pub invariant_of-self : goal.invariant_of-self
 invariant_of-self c =
-    let x : Task = record { name = c.new.result; time = c.args.time } in
-    let g = table_more c.args.self.now x c.args.name.now c.new.ensures c.requires.room c.args.place _ c.shift_up.new.part refl c.requires.timed c.requires.gap c.shift_up.ensures in
-    record { room = omega arith; long = (search rules, search rules); timed = g.timed; numbers = g.numbers; named = g.named; whole = g.whole }
-
-pub returns : goal.returns
-returns c = entries_more c.args.self.now _ c.args.name.now c.new.ensures c.requires.room
+    let t = c.args.self.now in
+    let x = entry c.args.name.now c.args.time in
+    let e = ap entries_of c.push.ensures.items ∙ entries_more t.tasks.items _ x c.new.ensures in
+    let l : c.len-number.result ≡ length (entries t) = omega (arith, length-map t.tasks.items entry_of) in
+    record {
+      timed = rw e (timed_more (entries t) x c.requires.timed t.timed);
+      indexed = rw (e, c.insert.ensures.items, l) (indexes_more (entries t) x (numbers t) c.args.place t.indexed c.requires.gap);
+    }

@@ -1,7 +1,0 @@
--- No bit of a word that is 0 is set.
-use Rattle.needs.specs.Pairs.{limit}
-use Rattle.bit_rows.proofs.Flips.{none_held}
-use Rattle.bit_rows.proofs.grid.Grid.new.Goals as goal
-
-pub returns : goal.returns
-returns c = none_held limit
