@@ -1,9 +1,9 @@
 -- What a grid holds with no bit set, and after one bit is flipped.
-use Rattle.std.proofs.Common.{◌≡◌, ℕ, zero, suc, ◌/◌, ◌%◌, ◌<◌, not, ◌&&◌, ltb, List, [], length, get_or, set, replicate, refl, ap, ◌∙◌, ⊎_elim, arith, lit<}
+use Rattle.std.proofs.Common.{◌≡◌, ℕ, zero, suc, ◌/◌, ◌%◌, ◌<◌, not, ltb, List, [], length, get_or, set, replicate, refl, ap, ◌∙◌, ⊎_elim, arith}
+use Rattle.std.proofs.lemmas.Grind.{common_steps}
 use mathlib.Core.Path.{fun_ext}
-use Rattle.std.proofs.lemmas.List.{get_or-set_same, get_or-set_other}
-use Rattle.std.proofs.lemmas.Nat.{mod_below}
-use Rattle.std.proofs.lemmas.Bool.{cases_eq, eq-eqb, ne_eqb, lt-ltb, and_right}
+use Rattle.std.proofs.lemmas.List.{get_or-set_same}
+use Rattle.std.proofs.lemmas.Bool.{cases_eq, lt-ltb, and_right}
 use Rattle.needs.specs.Pairs.{limit, with_pair, no_pairs}
 use Rattle.bit_rows.specs.Rows.{word_bit, row_bit, held}
 use Rattle.bit_rows.proofs.Words.{flipped_word, flipped_here, flipped_other, no_bit}
@@ -13,18 +13,12 @@ flipped_row row b = set row (b / 64) (flipped_word (get_or row (b / 64) 0) (b % 
 
 row_here : (row : List ℕ) (b : ℕ) → b < limit → b / 64 < length row → row_bit (flipped_row row b) b ≡ not (row_bit row b)
 row_here row b l h =
-    rw (lt-ltb b limit l)
-    (ap (λ w. word_bit w (b % 64)) (get_or-set_same row (b / 64) _ 0 h) ∙ flipped_here _ (b % 64) (mod_below b 64 (lit< tt)))
+    rw (lt-ltb b limit l, get_or-set_same row (b / 64) (flipped_word (get_or row (b / 64) 0) (b % 64)) 0 h)
+    (flipped_here _ (b % 64) (omega arith))
 
 row_other : (row : List ℕ) (b y : ℕ) → b / 64 < length row → (y ≡ b → ⊥) → row_bit (flipped_row row b) y ≡ row_bit row y
 row_other row b y h n =
-    ap (λ t. ltb y limit && t)
-    (⊎_elim
-    (λ (e : y / 64 ≡ b / 64).
-    rw (e, get_or-set_same row (b / 64) (flipped_word (get_or row (b / 64) 0) (b % 64)) 0 h)
-    (flipped_other _ (b % 64) (y % 64) (mod_below b 64 (lit< tt)) (λ m. n (omega arith))))
-    (λ (d : y / 64 ≡ b / 64 → ⊥). ap (λ w. word_bit w (y % 64)) (get_or-set_other row (b / 64) (y / 64) _ 0 d))
-    (cases_eq (y / 64) (b / 64)))
+    grind (arith, common_steps, n, flipped_other (get_or row (b / 64) 0) (b % 64) (y % 64))
 
 module _ (rows : List (List ℕ)) (a b : ℕ) (ha : a < limit) (hb : b < limit) (la : a < length rows) (lb : b / 64 < length (get_or rows a [])) where
   abbrev flipped : List (List ℕ)
@@ -33,15 +27,12 @@ module _ (rows : List (List ℕ)) (a b : ℕ) (ha : a < limit) (hb : b < limit) 
   at_row : (y : ℕ) → held flipped a y ≡ with_pair a b (not (held rows a b)) (held rows) a y
   unfolding held
   at_row y =
-      rw (get_or-set_same rows a (flipped_row (get_or rows a []) b) [] la, eq-eqb a a refl, lt-ltb a limit ha)
-      (⊎_elim
-      (λ (e : y ≡ b). rw (e, eq-eqb b b refl) (row_here (get_or rows a []) b hb lb))
-      (λ (n : y ≡ b → ⊥). rw (ne_eqb y b n) (row_other (get_or rows a []) b y lb n))
-      (cases_eq y b))
+      rw (get_or-set_same rows a (flipped_row (get_or rows a []) b) [] la)
+      (grind (arith, common_steps, row_here (get_or rows a []) b hb lb, row_other (get_or rows a []) b y lb))
 
   at_other : (x y : ℕ) → (x ≡ a → ⊥) → held flipped x y ≡ with_pair a b (not (held rows a b)) (held rows) x y
   unfolding held
-  at_other x y n = rw (get_or-set_other rows a x (flipped_row (get_or rows a []) b) [] n, ne_eqb x a n)
+  at_other x y n = grind (arith, common_steps, n)
 
   pub flip_held : held flipped ≡ with_pair a b (not (held rows a b)) (held rows)
   flip_held = fun_ext (λ x. fun_ext (λ y. ⊎_elim (λ (e : x ≡ a). rw e (at_row y)) (at_other x y) (cases_eq x a)))

@@ -11,7 +11,8 @@ const WORD: usize = 64;
 
 const WORDS: usize = LIMIT / WORD;
 
-// Row x has the pairs (x, y), so that the least of them is found by words, along the row.
+// Row x has the pairs (x, y), so that the least of them is found by words, along the row. Arrays,
+// since no row or word is ever out of use.
 #[derive(Drop)]
 pub struct Grid {
     rows: [[u64; WORDS]; LIMIT],
@@ -45,6 +46,7 @@ fn next_in_word(row: &[u64; WORDS], from: usize) -> Option<usize>
 fn next_column(row: &[u64; WORDS], k: usize) -> Option<usize>
     ensures { Next (row_bit row.now) k result }
 {
+    // By `find_map` the contract does not close.
     for word in k / WORD..WORDS {
         if let Some(y) = next_in_word(row, k.max(word * WORD)) {
             return Some(y);

@@ -66,7 +66,8 @@ fn digit(byte: u8) -> Option<u32>
     char::from(byte).to_digit(10)
 }
 
-// The number that a few digits write, or none where a byte is no digit.
+// The number that a few digits write, or none where a byte is no digit. By hand: `parse` takes a sign,
+// and asks for a `str`.
 fn digits_value(digits: &[u8]) -> Option<u64>
     requires { length digits.now ≤ most_digits }
     ensures { result ≡ (if all_ascii_digits digits.now then Some (digits_value 10 digits.now) else None) }
@@ -167,6 +168,7 @@ impl<'a> Field<'a> {
     pub fn letter(self) -> Result<Letter, FieldFault>
         ensures { result ≡ letter_at self.entry.place self.entry.bytes.now }
     {
+        // With `map_err` the contract does not close.
         match Letter::try_from(self.bytes) {
             Ok(letter) => Ok(letter),
             Err(flaw) => Err(self.fault(flaw)),

@@ -1,51 +1,34 @@
 -- How many pairs a set has: one more, one less, none, room for one, and as many with the pairs turned round.
 use Rattle.std.proofs.Common.{◌≡◌, ℕ, zero, suc, ◌+◌, ◌*◌, ◌<◌, ◌≤◌, Bool, true, false, sym, refl, ap, ◌∙◌, ⊎_elim, suc-mul, arith, lit<}
+use Rattle.std.proofs.lemmas.Grind.{common_steps}
 use mathlib.Core.Path.{fun_ext}
-use Rattle.std.proofs.lemmas.Bool.{cases_eq, eq-eqb, ne_eqb}
+use Rattle.std.proofs.lemmas.Bool.{cases_eq}
 use Rattle.needs.specs.Pairs.{Pairs, with_pair, sum_below, one_if, count, no_pairs, limit, Mirrors}
 
 sum_same : (n : ℕ) (f g : ℕ → ℕ) → ((k : ℕ) → k < n → f k ≡ g k) → sum_below n f ≡ sum_below n g
 sum_same zero f g h = refl
-sum_same (suc n) f g h =
-    let i : sum_below n f ≡ sum_below n g = sum_same n f g (λ k l. h k (omega arith)) in
-    let e : f n ≡ g n = h n (omega arith) in
-    omega arith
+sum_same (suc n) f g h = grind (arith, sum_same n f g (λ k l. h k (omega arith)), h n)
 
 -- one place holds one more
 sum_one : (n a : ℕ) (f g : ℕ → ℕ) → a < n → ((k : ℕ) → (k ≡ a → ⊥) → f k ≡ g k) → g a ≡ f a + 1 → sum_below n g ≡ sum_below n f + 1
 sum_one zero a f g l h e = absurd (omega arith)
 sum_one (suc n) a f g l h e =
     ⊎_elim
-    (λ (p : n ≡ a).
-    let s : sum_below n f ≡ sum_below n g = sum_same n f g (λ k q. h k (omega arith)) in
-    let t : g n ≡ f n + 1 = rw p e in
-    omega arith)
-    (λ (q : n ≡ a → ⊥).
-    let s : sum_below n g ≡ sum_below n f + 1 = sum_one n a f g (omega arith) h e in
-    let t : f n ≡ g n = h n q in
-    omega arith)
+    (λ (p : n ≡ a). let s = sum_same n f g (λ k q. h k (omega arith)) in grind arith)
+    (λ (q : n ≡ a → ⊥). grind (arith, sum_one n a f g (omega (arith, q)) h e, h n q))
     (cases_eq n a)
 
 sum_most : (n m : ℕ) (f : ℕ → ℕ) → ((k : ℕ) → f k ≤ m) → sum_below n f ≤ n * m
 sum_most zero m f h = omega arith
-sum_most (suc n) m f h =
-    let i : sum_below n f ≤ n * m = sum_most n m f h in
-    let j : f n ≤ m = h n in
-    rw (suc-mul n m) (omega arith)
+sum_most (suc n) m f h = omega (arith, suc-mul n m, sum_most n m f h, h n)
 
 -- one place holds less
 sum_less : (n m a : ℕ) (f : ℕ → ℕ) → ((k : ℕ) → f k ≤ m) → a < n → f a < m → sum_below n f < n * m
 sum_less zero m a f h l e = absurd (omega arith)
 sum_less (suc n) m a f h l e =
     ⊎_elim
-    (λ (p : n ≡ a).
-    let i : sum_below n f ≤ n * m = sum_most n m f h in
-    let j : f n < m = rw p e in
-    rw (suc-mul n m) (omega arith))
-    (λ (q : n ≡ a → ⊥).
-    let i : sum_below n f < n * m = sum_less n m a f h (omega arith) e in
-    let j : f n ≤ m = h n in
-    rw (suc-mul n m) (omega arith))
+    (λ (p : n ≡ a). let j : f n < m = rw p e in omega (arith, suc-mul n m, sum_most n m f h))
+    (λ (q : n ≡ a → ⊥). omega (arith, suc-mul n m, sum_less n m a f h (omega (arith, q)) e, h n))
     (cases_eq n a)
 
 one_most : (b : Bool) → one_if b ≤ 1
@@ -69,26 +52,19 @@ count_one h g a b la lb eh eg rows cols =
     (λ x n. ap (sum_below limit) (fun_ext (λ y. ap one_if (rows x y n))))
     (sum_one limit b (λ y. one_if (h a y)) (λ y. one_if (g a y)) lb (λ y n. ap one_if (cols y n)) (rw (eh, eg)))
 
-with_here : (a b : ℕ) (v : Bool) (h : Pairs) → with_pair a b v h a b ≡ v
-with_here a b v h = rw (eq-eqb a a refl, eq-eqb b b refl)
-
-with_row : (a b : ℕ) (v : Bool) (h : Pairs) (x y : ℕ) → (x ≡ a → ⊥) → with_pair a b v h x y ≡ h x y
-with_row a b v h x y n = rw (ne_eqb x a n)
-
-with_col : (a b : ℕ) (v : Bool) (h : Pairs) (y : ℕ) → (y ≡ b → ⊥) → with_pair a b v h a y ≡ h a y
-with_col a b v h y n = rw (eq-eqb a a refl, ne_eqb y b n)
-
 pub count_with : (h : Pairs) (a b : ℕ) → a < limit → b < limit → h a b ≡ false → count (with_pair a b true h) ≡ count h + 1
 count_with h a b la lb e =
-    count_one h (with_pair a b true h) a b la lb e (with_here a b true h) (λ x y n. sym (with_row a b true h x y n)) (λ y n. sym (with_col a b true h y n))
+    count_one h (with_pair a b true h) a b la lb e (grind (arith, common_steps))
+    (λ x y n. grind (arith, common_steps, n)) (λ y n. grind (arith, common_steps, n))
 
 pub count_without : (h : Pairs) (a b : ℕ) → a < limit → b < limit → h a b ≡ true → count h ≡ count (with_pair a b false h) + 1
 count_without h a b la lb e =
-    count_one (with_pair a b false h) h a b la lb (with_here a b false h) e (with_row a b false h) (with_col a b false h)
+    count_one (with_pair a b false h) h a b la lb (grind (arith, common_steps)) e
+    (λ x y n. grind (arith, common_steps, n)) (λ y n. grind (arith, common_steps, n))
 
 sum_none : (n : ℕ) (f : ℕ → ℕ) → ((k : ℕ) → f k ≡ 0) → sum_below n f ≡ 0
 sum_none zero f h = refl
-sum_none (suc n) f h = let i = sum_none n f h in let e = h n in omega arith
+sum_none (suc n) f h = omega (arith, sum_none n f h, h n)
 
 pub count_none : count no_pairs ≡ 0
 unfolding count
@@ -96,7 +72,7 @@ count_none = sum_none limit (λ a. sum_below limit (λ b. one_if false)) (λ a. 
 
 sum_both : (n : ℕ) (f g : ℕ → ℕ) → sum_below n (λ k. f k + g k) ≡ sum_below n f + sum_below n g
 sum_both zero f g = refl
-sum_both (suc n) f g = let i = sum_both n f g in omega arith
+sum_both (suc n) f g = omega (arith, sum_both n f g)
 
 -- the order of two sums
 sum_turned : (n m : ℕ) (f : ℕ → ℕ → ℕ) → sum_below n (λ a. sum_below m (f a)) ≡ sum_below m (λ b. sum_below n (λ a. f a b))

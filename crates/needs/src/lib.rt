@@ -14,7 +14,7 @@ mod two_way;
 pub const LIMIT: usize = 512;
 
 // A store is known by its set and its places alone: an implementation proves that every call does
-// to them what the call's contract says.
+// to them what the call's contract says. Two numbers and no pair: every caller has them apart.
 pub trait NeedStore {
     // (a, b) is in the set: a needs b.
     ghost has: { Self → ℕ → ℕ → Bool };
@@ -58,7 +58,8 @@ pub trait NeedStore {
 }
 
 // One half of a store: a set of pairs that is asked for what stands with a first number. How many
-// places it has is a matter of the type, so that two halves have as many.
+// places it has is a matter of the type, so that two halves have as many. It is no supertrait of
+// `NeedStore`, whose places are a store's own.
 pub trait PairSet {
     // (x, y) is in the set.
     ghost has: { Self → ℕ → ℕ → Bool };

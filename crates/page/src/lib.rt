@@ -12,13 +12,15 @@ ghost use Rattle.page.specs.Writing.{Put, Written, tabbed};
 use itoa::Buffer;
 use refusal::{PageFault, Refusal};
 
-// The lent bytes, and where the page goes on.
+// The lent bytes, and where the page goes on. No `ArrayVec`: a page is counted on past the end of the
+// bytes.
 #[derive(Drop)]
 struct Page<'a> {
     out: &'a mut [u8],
     at: usize,
 }
 
+// By hand, since `write!` does not say when it succeeds.
 impl Page<'_> {
     fn put(&mut self, bytes: &[u8])
         ensures { Puts self.old self.new bytes.now }
@@ -69,7 +71,8 @@ fn put_refusal(out: &mut [u8], refusal: Refusal) -> usize
     page.at
 }
 
-// The page of a refusal at the front of the lent bytes, or nothing where they are too few.
+// The page of a refusal at the front of the lent bytes, or nothing where they are too few: how many
+// bytes it has, and no slice, which would keep the others lent.
 pub fn write_refusal(out: &mut [u8], refusal: Refusal) -> Result<usize, PageFault>
     ensures { Written out.old out.new (refusal_page refusal) result }
 {

@@ -1,9 +1,10 @@
 // Pairs of numbers below 512 in rising order. A pair (x, y) is kept as the number 512 x + y, so that
 // the pairs of one x stand together, and rise by y.
-ghost use Rattle.std.specs.Prelude.{◌≡◌, ◌+◌, ◌*◌, ◌/◌, ◌%◌, ◌<◌, true, false, length, is_ok, slice_index};
+ghost use Rattle.std.specs.Prelude.{◌≡◌, ◌+◌, ◌*◌, ◌&&◌, if◌then◌else◌, nat_lt, length, is_ok};
 ghost use Rattle.std.proofs.Common.{rules};
-ghost use Rattle.needs.specs.Pairs.{limit, count, with_pair, Next};
-ghost use Rattle.pair_table.specs.Cells.{Rising, Small, Lower, FitsAt, StandsAt, Found, in_cells};
+ghost use Rattle.needs.specs.Pairs.{limit, count};
+ghost use Rattle.ordered.specs.Order.{holds};
+ghost use Rattle.pair_table.specs.Cells.{Rising, Small, Found, in_cells};
 
 use arrayvec::ArrayVec;
 use needs::{LIMIT, PairSet};
@@ -19,64 +20,24 @@ pub struct SortedPairs {
     ghost counted: { count (in_cells cells.items) ≡ length cells.items },
 }
 
-// The number that stands for (x, y).
-fn cell_of(x: usize, y: usize) -> u32
-    requires { (x < limit) × (y < limit) }
-    ensures { result ≡ x * limit + y }
+// The number that stands for (x, y); none where one of the two is too large to be in a pair.
+fn cell_of(x: usize, y: usize) -> Option<u32>
+    ensures { result ≡ (if nat_lt x limit && nat_lt y limit then Some (x * limit + y) else None) }
 {
-    (x * LIMIT + y) as u32
+    if x < LIMIT && y < LIMIT {
+        Some((x * LIMIT + y) as u32)
+    } else {
+        None
+    }
 }
 
 impl SortedPairs {
-    // Where (x, y) stands, or would stand.
-    fn find(&self, x: usize, y: usize) -> Result<usize, usize>
-        requires { (x < limit) × (y < limit) }
-        ensures place { Found self.now.cells.items (x * limit + y) result }
-        ensures test { is_ok result ≡ in_cells self.now.cells.items x y }
+    // Where the cell stands, or would stand.
+    fn find(&self, cell: u32) -> Result<usize, usize>
+        ensures place { Found self.now.cells.items cell result }
+        ensures test { is_ok result ≡ holds self.now.cells.items cell }
     {
-        self.cells.as_slice().binary_search(&cell_of(x, y))
-    }
-
-    // How many pairs lie below (x, y).
-    #[tactic(auto, using(crate::proofs::Places::lower_here, crate::proofs::Places::lower_between))]
-    fn rank(&self, x: usize, y: usize) -> usize
-        requires { (x < limit) × (y < limit) }
-        ensures { Lower self.now.cells.items (x * limit + y) result }
-    {
-        match self.find(x, y) {
-            Ok(at) | Err(at) => at,
-        }
-    }
-
-    // The least y from k on with (x, y) in the set.
-    #[tactic(auto, using(crate::proofs::Places::next_past, crate::proofs::Places::next_none))]
-    fn next_in_row(&self, x: usize, k: usize) -> Option<usize>
-        requires { (x < limit) × (k < limit) }
-        ensures { Next (in_cells self.now.cells.items x) k result }
-    {
-        match self.cells.as_slice().get(self.rank(x, k)) {
-            Some(cell) if *cell as usize / LIMIT == x => Some(*cell as usize % LIMIT),
-            _ => None,
-        }
-    }
-
-    // Puts (x, y) in where it would stand.
-    fn put_in(&mut self, at: usize, x: usize, y: usize)
-        requires low { (x < limit) × (y < limit) }
-        requires room { length self.old.cells.items < 4096 }
-        requires place { FitsAt self.old.cells.items (x * limit + y) «at» }
-        ensures { in_cells self.new.cells.items ≡ with_pair x y true (in_cells self.old.cells.items) }
-    {
-        self.cells.insert(at, cell_of(x, y));
-    }
-
-    // Takes out the pair that stands at `at`.
-    fn take_out(&mut self, at: usize)
-        requires { «at» < length self.old.cells.items }
-        ensures { let cell = slice_index self.old.cells.items «at» in
-            in_cells self.new.cells.items ≡ with_pair (cell / limit) (cell % limit) false (in_cells self.old.cells.items) }
-    {
-        self.cells.remove(at);
+        self.cells.as_slice().binary_search(&cell)
     }
 }
 
@@ -97,27 +58,21 @@ impl PairSet for SortedPairs {
     }
 
     fn insert(&mut self, x: usize, y: usize) -> Result<(), StoreFault> {
-        if x >= LIMIT || y >= LIMIT {
-            return Err(StoreFault::TooLarge);
-        }
-        let Err(at) = self.find(x, y) else {
+        let cell = cell_of(x, y).ok_or(StoreFault::TooLarge)?;
+        let Err(at) = self.find(cell) else {
             return Err(StoreFault::Present);
         };
         if self.cells.is_full() {
             return Err(StoreFault::Full);
         }
-        self.put_in(at, x, y);
+        self.cells.insert(at, cell);
         Ok(())
     }
 
     fn remove(&mut self, x: usize, y: usize) -> Result<(), StoreFault> {
-        if x >= LIMIT || y >= LIMIT {
-            return Err(StoreFault::Absent);
-        }
-        let Ok(at) = self.find(x, y) else {
-            return Err(StoreFault::Absent);
-        };
-        self.take_out(at);
+        let cell = cell_of(x, y).ok_or(StoreFault::Absent)?;
+        let at = self.find(cell).map_err(|_| StoreFault::Absent)?;
+        self.cells.remove(at);
         Ok(())
     }
 
@@ -127,14 +82,14 @@ impl PairSet for SortedPairs {
     }
 
     fn contains(&self, x: usize, y: usize) -> bool {
-        x < LIMIT && y < LIMIT && self.find(x, y).is_ok()
+        cell_of(x, y).is_some_and(|cell| self.find(cell).is_ok())
     }
 
+    // The first cell from (x, k) on, where it is one of row x.
     fn next(&self, x: usize, k: usize) -> Option<usize> {
-        if x < LIMIT && k < LIMIT {
-            self.next_in_row(x, k)
-        } else {
-            None
-        }
+        let cell = cell_of(x, k)?;
+        let (Ok(at) | Err(at)) = self.find(cell);
+        let next = *self.cells.as_slice().get(at)? as usize;
+        (next / LIMIT == x).then_some(next % LIMIT)
     }
 }

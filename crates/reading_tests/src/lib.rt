@@ -65,49 +65,64 @@ mod tests {
         Ok(())
     }
 
-    fn check_most_lines<H: Handler>(
-        rt: &impl Abort,
-        heap: Global,
-        handler: &mut H,
-    ) -> Result<(), Fail> {
-        let feeds = vec![in heap; b'\n'; 65_536]?;
-        let all = pages(heap, handler, &feeds)?;
-        // 1 to 5 digits a line: 9, 90, 900, 9,000 and 55,537 lines of 8 bytes and the digits.
-        assert_eq!(rt; all.len(), 840_862);
-        assert!(rt;
-            all.as_slice()
-                .ends_with(b"!\t65535\t1\t21\n!\t65536\t1\t21\n")
-        );
-        Ok(())
-    }
-
     // As many lines as bytes, each with its number.
     #[test]
     fn most_lines(rt: HostRuntime) -> Result<(), Fail> {
-        check_most_lines(&rt, rt.alloc(), &mut Reading)?;
-        check_most_lines(&rt, rt.alloc(), &mut Sheet::open(PairTable::new()))
+        let feeds = vec![in rt.alloc(); b'\n'; 65_536]?;
+        let read = pages(rt.alloc(), &mut Reading, &feeds)?;
+        let carried_out = pages(rt.alloc(), &mut Sheet::open(PairTable::new()), &feeds)?;
+        for all in [&read, &carried_out] {
+            // 1 to 5 digits a line: 9, 90, 900, 9,000 and 55,537 lines of 8 bytes and the digits.
+            assert_eq!(rt; all.len(), 840_862);
+            assert!(rt;
+                all.as_slice()
+                    .ends_with(b"!\t65535\t1\t21\n!\t65536\t1\t21\n")
+            );
+        }
+        Ok(())
     }
 
-    fn check_lent_bytes<H: Handler>(rt: &impl Abort, handler: &mut H) -> Result<(), Fail> {
+    // What the steps of a text answer, what they leave in the bytes that they are lent, and how many
+    // lines are read.
+    type Lent = (
+        [Result<Option<usize>, PageFault>; 4],
+        [u8; 8],
+        [u8; 12],
+        [usize; 2],
+    );
+
+    fn lend<H: Handler>(handler: &mut H) -> Result<Lent, Fail> {
         let mut text = Text::open(b"T\ta\t1\nx")?;
-        assert_eq!(rt; step(&mut text, handler, &mut [])?, Some(0));
+        let none = step(&mut text, handler, &mut []);
         let mut eight = [7; 8];
-        assert_eq!(rt; step(&mut text, handler, &mut eight), Err(PageFault::Short));
-        assert_eq!(rt; eight, [7; 8]);
-        assert_eq!(rt; text.lines_read(), 1);
+        let short = step(&mut text, handler, &mut eight);
+        let before = text.lines_read();
         let mut twelve = [7; 12];
-        assert_eq!(rt; step(&mut text, handler, &mut twelve)?, Some(9));
-        assert_eq!(rt; step(&mut text, handler, &mut twelve)?, None);
-        assert_eq!(rt; &twelve, b"!\t2\t1\t21\n\x07\x07\x07");
-        assert_eq!(rt; text.lines_read(), 2);
-        Ok(())
+        let last = step(&mut text, handler, &mut twelve);
+        let past = step(&mut text, handler, &mut twelve);
+        Ok((
+            [none, short, last, past],
+            eight,
+            twelve,
+            [before, text.lines_read()],
+        ))
     }
 
     // A page of 9 bytes in 8 and in 12; after the last line nothing is written.
     #[test]
     fn lent_bytes(rt: HostRuntime) -> Result<(), Fail> {
-        check_lent_bytes(&rt, &mut Reading)?;
-        check_lent_bytes(&rt, &mut Sheet::open(PairTable::new()))
+        let read = lend(&mut Reading)?;
+        let carried_out = lend(&mut Sheet::open(PairTable::new()))?;
+        for (answers, eight, twelve, lines) in [read, carried_out] {
+            assert_eq!(rt;
+                answers,
+                [Ok(Some(0)), Err(PageFault::Short), Ok(Some(9)), Ok(None)]
+            );
+            assert_eq!(rt; eight, [7; 8]);
+            assert_eq!(rt; &twelve, b"!\t2\t1\t21\n\x07\x07\x07");
+            assert_eq!(rt; lines, [1, 2]);
+        }
+        Ok(())
     }
 
     // A whole run, by way of allocated memory.

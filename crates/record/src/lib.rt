@@ -133,23 +133,16 @@ impl<'a> Fields<'a> {
     fn record(self, kind: Kind) -> Result<Record<'a>, FieldFault>
         ensures { seen meant result ≡ asked_by kind self.entry.first.now self.entry.second.now }
     {
+        // A match and no table of readers, since each kind has fields of its own.
         match kind {
-            Kind::Task => {
-                let (name, time) = self.name_and_time()?;
-                Ok(Record::T { name, time })
-            }
-            Kind::Need => {
-                let (task, need) = self.names()?;
-                Ok(Record::N { task, need })
-            }
-            Kind::Drop => {
-                let (task, need) = self.names()?;
-                Ok(Record::D { task, need })
-            }
-            Kind::Retime => {
-                let (name, time) = self.name_and_time()?;
-                Ok(Record::R { name, time })
-            }
+            Kind::Task => self
+                .name_and_time()
+                .map(|(name, time)| Record::T { name, time }),
+            Kind::Need => self.names().map(|(task, need)| Record::N { task, need }),
+            Kind::Drop => self.names().map(|(task, need)| Record::D { task, need }),
+            Kind::Retime => self
+                .name_and_time()
+                .map(|(name, time)| Record::R { name, time }),
             Kind::Plan => {
                 let workers = self.first().workers()?;
                 let letter = self.second().letter()?;

@@ -6,7 +6,7 @@
 #![tactic(auto)]
 
 ghost use Rattle.std.specs.Prelude.{◌≡◌, ℕ, Some, codes};
-ghost use Rattle.refusal.specs.Table.{flaw_number, store_number, field_refusal, line_refusal, store_refusal, sheet_refusal, text_refusal, step_refusal, page_refusal};
+ghost use Rattle.refusal.specs.Table.{refusal_at, flaw_number, store_number, field_refusal, line_refusal, store_refusal, sheet_refusal, text_refusal, step_refusal, page_refusal};
 ghost use Rattle.refusal.specs.declared.Refusal.{Refusal};
 ghost use Rattle.refusal.specs.declared.LineFault.TheVariants.{Field};
 ghost use Rattle.refusal.specs.declared.SheetFault.TheVariants as sheets;
@@ -74,7 +74,8 @@ pub enum TextFault {
     Line(LineFault),
 }
 
-// What a line that is carried out upon a sheet is refused by.
+// What a line that is carried out upon a sheet is refused by. Not `TextFault` with one more variant:
+// a text that is only read meets no sheet.
 #[derive(Clone, Copy, PartialEq, Eq, Debug)]
 pub enum StepFault {
     Line(LineFault),
@@ -88,12 +89,24 @@ pub enum PageFault {
 }
 
 // What a refusal names: the line, from 1, or 0 for none; the field, from 1, or 0 for the whole
-// line; the number.
+// line; the number. No `Option`s: 0 is what the page prints for none.
 #[derive(Clone, Copy, PartialEq, Eq, Debug)]
 pub struct Refusal {
     pub line: usize,
     pub field: u8,
     pub number: u8,
+}
+
+impl Refusal {
+    fn at(line: usize, field: u8, number: u8) -> Refusal
+        ensures { result ≡ refusal_at line field number }
+    {
+        Refusal {
+            line,
+            field,
+            number,
+        }
+    }
 }
 
 // A fault that is told by the line it stands in; one that stands in no line is told by line 0.
@@ -104,6 +117,8 @@ pub trait Fault {
         ensures { result ≡ told line self };
 }
 
+// `From` by hand: the derive of `thiserror` does not say which variant it makes, and the contracts
+// of functions with `?` name it.
 impl From<FieldFault> for LineFault {
     ghost from_gives = { λ f r. r ≡ Field f };
 
@@ -152,6 +167,7 @@ impl From<SheetFault> for StepFault {
     }
 }
 
+// A method, whose name says what the number is: `u8::from(flaw)` would be no plainer.
 impl Flaw {
     pub fn number(self) -> u8
         ensures { result ≡ flaw_number self }
@@ -169,11 +185,7 @@ impl Fault for FieldFault {
     ghost told = { field_refusal };
 
     fn refusal(self, line: usize) -> Refusal {
-        Refusal {
-            line,
-            field: self.field,
-            number: self.flaw.number(),
-        }
+        Refusal::at(line, self.field, self.flaw.number())
     }
 }
 
@@ -182,21 +194,14 @@ impl Fault for LineFault {
 
     fn refusal(self, line: usize) -> Refusal {
         match self {
-            LineFault::Letter => Refusal {
-                line,
-                field: 1,
-                number: 21,
-            },
-            LineFault::FieldCount => Refusal {
-                line,
-                field: 0,
-                number: 22,
-            },
+            LineFault::Letter => Refusal::at(line, 1, 21),
+            LineFault::FieldCount => Refusal::at(line, 0, 22),
             LineFault::Field(fault) => fault.refusal(line),
         }
     }
 }
 
+// `number`, as a flaw has it.
 impl StoreFault {
     pub fn number(self) -> u8
         ensures { result ≡ store_number self }
@@ -214,11 +219,7 @@ impl Fault for StoreFault {
     ghost told = { store_refusal };
 
     fn refusal(self, line: usize) -> Refusal {
-        Refusal {
-            line,
-            field: 0,
-            number: self.number(),
-        }
+        Refusal::at(line, 0, self.number())
     }
 }
 
@@ -228,26 +229,10 @@ impl Fault for SheetFault {
     fn refusal(self, line: usize) -> Refusal {
         match self {
             SheetFault::Field(fault) => fault.refusal(line),
-            SheetFault::Known => Refusal {
-                line,
-                field: 2,
-                number: 31,
-            },
-            SheetFault::NoRoom => Refusal {
-                line,
-                field: 0,
-                number: 32,
-            },
-            SheetFault::Unknown(field) => Refusal {
-                line,
-                field,
-                number: 33,
-            },
-            SheetFault::SameTask => Refusal {
-                line,
-                field: 0,
-                number: 34,
-            },
+            SheetFault::Known => Refusal::at(line, 2, 31),
+            SheetFault::NoRoom => Refusal::at(line, 0, 32),
+            SheetFault::Unknown(field) => Refusal::at(line, field, 33),
+            SheetFault::SameTask => Refusal::at(line, 0, 34),
             SheetFault::Store(fault) => fault.refusal(line),
         }
     }
@@ -258,11 +243,7 @@ impl Fault for TextFault {
 
     fn refusal(self, line: usize) -> Refusal {
         match self {
-            TextFault::TooLong => Refusal {
-                line: 0,
-                field: 0,
-                number: 51,
-            },
+            TextFault::TooLong => Refusal::at(0, 0, 51),
             TextFault::Line(fault) => fault.refusal(line),
         }
     }
@@ -279,20 +260,18 @@ impl Fault for StepFault {
     }
 }
 
+// No `Fault`, since a page stands in no line.
 impl PageFault {
     pub fn refusal(self) -> Refusal
         ensures { result ≡ page_refusal self }
     {
         match self {
-            PageFault::Short => Refusal {
-                line: 0,
-                field: 0,
-                number: 61,
-            },
+            PageFault::Short => Refusal::at(0, 0, 61),
         }
     }
 }
 
+// By hand, since the derive of `thiserror` does not say what is written.
 impl fmt::Display for PageFault {
     ghost output = { λ _. Some (codes "the page has more bytes than are lent") };
 

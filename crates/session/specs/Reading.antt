@@ -6,5 +6,5 @@ use Rattle.refusal.specs.declared.TextFault.TheVariants.{Line}
 use Rattle.record.specs.Records.{record_of}
 
 -- the answer to a line: a good record is granted
-abbrev pub answer_read : List ℕ → Result (Unit {0}) TextFault
-answer_read s = within Line (then (record_of s) (λ _. Ok tt))
+abbrev pub answer_to : List ℕ → Result (Unit {0}) TextFault
+answer_to s = within Line (then (record_of s) (λ _. Ok tt))

@@ -1,5 +1,5 @@
 // Lines that are only read: each is answered by itself.
-ghost use Rattle.session.specs.Reading.{answer_read};
+ghost use Rattle.session.specs.Reading.{answer_to};
 
 use crate::Handler;
 use record::read_record;
@@ -15,7 +15,7 @@ impl Handler for Reading {
 
     ghost book = { λ _. tt };
 
-    ghost answer = { λ _. answer_read };
+    ghost answer = { λ _. answer_to };
 
     ghost after = { λ b _. b };
 

@@ -17,6 +17,8 @@ use field::{Field, check_time};
 use needs::NeedStore;
 use refusal::SheetFault;
 
+// Tried: no `impl Model` with the book as its value, since the logic has no code of a function, which
+// a book's needs are.
 #[derive(Drop)]
 pub struct Sheet<S> {
     tasks: Tasks,
@@ -59,7 +61,7 @@ impl<S: NeedStore> Sheet<S> {
         Ok((a, b))
     }
 
-    // The first task needs the second.
+    // The first task needs the second. Two names and no pair: every caller has them apart.
     pub fn need(&mut self, task: &[u8], need: &[u8]) -> Result<(), SheetFault>
         ensures answer { result ≡ answer (book_of S.has S.places self.old) (enter_need task.now need.now) }
         ensures book { book_of S.has S.places self.new ≡ after (book_of S.has S.places self.old) (enter_need task.now need.now) }
@@ -91,6 +93,7 @@ impl<S: NeedStore> Sheet<S> {
         ensures kept { OnErr result (book_of S.has S.places self.new ≡ book_of S.has S.places self.old) }
         ensures others { Others (book_of S.has S.places self.old).tasks (book_of S.has S.places self.new).tasks name.now }
     {
+        // As in `enter`: one function for the two checks would have a contract longer than they are.
         let name = Field::new(2, name).name()?;
         let time = check_time(time, 3)?;
         let number = self.tasks.number(name, 2)?;
@@ -104,6 +107,7 @@ impl<S: NeedStore> Sheet<S> {
         ensures book { book_of S.has S.places self.new ≡ after (book_of S.has S.places self.old) (asked request.entry) }
         ensures kept { OnErr result (book_of S.has S.places self.new ≡ book_of S.has S.places self.old) }
     {
+        // A match and no table of calls, since each request has arguments of its own.
         match request {
             Request::Enter { name, time } => self.enter(name, time),
             Request::Need { task, need } => self.need(task, need),

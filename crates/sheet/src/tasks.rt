@@ -1,5 +1,6 @@
 // The tasks in order of entry, and their numbers in the order of their names: by halving a name is
-// found among them, and the order says how many names come before each.
+// found among them, and the order says how many names come before each. An index and no map, since
+// the library's maps are on the heap.
 ghost use Rattle.sheet.specs.Spelling.{entries_of, Indexes, Timed};
 
 use crate::task::Task;
@@ -49,7 +50,7 @@ impl Tasks {
             .map(|place| self.by_name[place] as usize)
     }
 
-    // The name of a task; past the last, none.
+    // The name of a task; past the last, an empty one, for which the search never asks.
     fn spelling(&self, number: u16) -> &[u8]
         ensures { result.now ≡ (task (entries self.now) number).name }
     {
@@ -101,6 +102,7 @@ impl Tasks {
         self.by_name.insert(place, number);
     }
 
+    #[tactic(auto, using(crate::proofs::Changing::retiming))]
     pub fn set_time(&mut self, number: usize, time: u64)
         requires within { number < length (entries self.old) }
         requires timed { (1 ≤ time) × (time ≤ longest_time) }

@@ -5,5 +5,5 @@ use Rattle.pair_table.proofs.sorted.SortedPairs.find.Goals as goal
 pub returns : goal.returns
 returns c =
     let s = c.args.self.now in
-    let f = found s.cells.items _ c.binary_search.result s.rising (rw (c.as_slice.ensures.value, c.cell_of.ensures) at c.binary_search.ensures.position) in
-    record { place = f; test = found_test s.cells.items c.args.x c.args.y c.requires.0 c.requires.1 c.binary_search.result f }
+    let f = found s.cells.items _ c.binary_search.result s.rising (rw c.as_slice.ensures.value at c.binary_search.ensures.position) in
+    record { place = f; test = found_test s.cells.items c.args.cell c.binary_search.result f }

@@ -13,7 +13,5 @@ returns c =
     let t = c.args.self.now in
     let s = c.binary_search_by.ensures in
     let answers = s.position (λ u. name_order (task (entries t) u).name c.args.name.now) (always_returns_same _ _ _ (λ a r f called. search rules)) in
-    let e = c.deref.ensures.0 in
-    let f = found (entries t) (numbers t) t.indexed c.args.name.now _ (rw e at s.bound) (rw e at answers) in
-    let m = c.map.ensures.cases in
+    let f = found (entries t) (numbers t) t.indexed c.args.name.now c.binary_search_by.result (rw c.deref.ensures.0 at s.bound) (rw c.deref.ensures.0 at answers) in
     grind (arith, common_steps)
