@@ -74,7 +74,9 @@ impl Grid {
 }
 
 impl PairSet for Grid {
-    ghost has = { λ s. held s.rows };
+    ghost use Rattle.bit_rows.specs.Grids.{pairs};
+
+    ghost has = { pairs };
 
     ghost places = { limit * limit };
 

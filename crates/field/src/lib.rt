@@ -103,8 +103,8 @@ pub fn check_time(time: u64, field: u8) -> Result<u64, FieldFault>
 // A field of a line: its place among the line's fields, from 1, and its bytes.
 #[derive(Clone, Copy)]
 pub struct Field<'a> {
-    place: u8,
-    bytes: &'a [u8],
+    pub place: u8,
+    pub bytes: &'a [u8],
 }
 
 impl<'a> Field<'a> {

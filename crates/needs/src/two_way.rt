@@ -27,7 +27,9 @@ impl<P: PairSet> TwoWay<P> {
 }
 
 impl<P: PairSet> NeedStore for TwoWay<P> {
-    ghost has = { λ s. P.has s.by_task };
+    ghost use Rattle.needs.specs.TwoWays.{pairs};
+
+    ghost has = { pairs };
 
     ghost places = { λ s. P.places };
 

@@ -7,10 +7,14 @@ use Rattle.std.specs.Bool.{◌==◌, then_some}
 use Rattle.std.proofs.lemmas.Grind.{common_steps}
 use Rattle.std.proofs.lemmas.Bool.{cases_eq, eq-eqb, ne_eqb}
 use Rattle.needs.specs.Pairs.{limit, Next}
-use Rattle.ordered.specs.Order.{holds}
+use Rattle.ordered.specs.Order.{holds, Parted}
 use Rattle.ordered.proofs.Edits.{holds_some}
-use Rattle.pair_table.specs.Cells.{in_cells, Rising, Lower, FitsAt, StandsAt, Found}
+use Rattle.pair_table.specs.Cells.{in_cells, Rising, FitsAt, StandsAt, Found}
 use Rattle.pair_table.proofs.Sets.{absent, not_held}
+
+-- i cells lie below k
+abbrev pub Lower : List ℕ → ℕ → ℕ → Type 0
+Lower cs k i = Parted (λ c. c < k) (λ c. k ≤ c) cs i
 
 weak : (cs : List ℕ) → Rising cs → (i j : ℕ) → i ≤ j → j < length cs → get_or cs i 0 ≤ get_or cs j 0
 weak cs up i j h l = grind (arith, up i j)

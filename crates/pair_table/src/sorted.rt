@@ -42,7 +42,9 @@ impl SortedPairs {
 }
 
 impl PairSet for SortedPairs {
-    ghost has = { λ s. in_cells s.cells.items };
+    ghost use Rattle.pair_table.specs.Sorted.{pairs};
+
+    ghost has = { pairs };
 
     ghost places = { 4096 };
 

@@ -1,7 +1,6 @@
 -- What stands in the first place from (x, k) on.
 use Rattle.std.proofs.Common.{rules}
-use Rattle.pair_table.specs.Cells.{Lower}
-use Rattle.pair_table.proofs.Places.{next_from, next_past, lower_here, lower_between}
+use Rattle.pair_table.proofs.Places.{Lower, next_from, next_past, lower_here, lower_between}
 use Rattle.pair_table.proofs.sorted.SortedPairsPairSet.next.Goals.{in-Ok, in-Ok-2}
 use Rattle.pair_table.proofs.sorted.SortedPairsPairSet.next.Goals as goal
 
