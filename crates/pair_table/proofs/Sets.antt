@@ -1,5 +1,5 @@
 -- The set that cells stand for: one cell more, one fewer, and how many pairs it has.
-use Rattle.std.proofs.Common.{◌≡◌, ℕ, ◌+◌, ◌*◌, ◌<◌, Bool, true, false, List, [], sym, ap, ◌∙◌, arith}
+use Rattle.std.proofs.Common.{◌≡◌, ℕ, ◌+◌, ◌*◌, ◌<◌, ◌≤◌, Bool, true, false, List, [], length, sym, ap, ◌∙◌, arith}
 use mathlib.Core.Path.{fun_ext}
 use Rattle.std.specs.List.{insert, remove}
 use Rattle.std.proofs.lemmas.Grind.{common_steps}
@@ -27,27 +27,26 @@ module _ (cs ds : List ℕ) (a b : ℕ) (v : Bool) (ha : a < limit) (hb : b < li
 pub not_held : (cs : List ℕ) (k i : ℕ) → FitsAt cs k i → holds cs k ≡ false
 not_held cs k i f = holds_none cs k (λ j l e. grind (arith, f.before j, f.from j))
 
--- the cell k of (a, b), put in or taken out at place i
-module _ (cs : List ℕ) (i k a b : ℕ) (e : k ≡ a * limit + b) (ha : a < limit) (hb : b < limit) where
-  pub set_inserted : FitsAt cs k i → in_cells (insert cs i k) ≡ with_pair a b true (in_cells cs)
-  set_inserted f =
-      rw e
-      (changed cs (insert cs i (a * limit + b)) a b true ha hb (holds_inserted_here cs i (a * limit + b) f.within) (holds_inserted_other cs i (a * limit + b)))
+-- the cell of (a, b), put in or taken out at place i
+module _ (cs : List ℕ) (i a b : ℕ) (ha : a < limit) (hb : b < limit) where
+  pub set_inserted : i ≤ length cs → in_cells (insert cs i (a * limit + b)) ≡ with_pair a b true (in_cells cs)
+  set_inserted h =
+      changed cs (insert cs i (a * limit + b)) a b true ha hb (holds_inserted_here cs i (a * limit + b) h) (holds_inserted_other cs i (a * limit + b))
 
-  pub set_removed : Rising cs → StandsAt cs k i → in_cells (remove cs i) ≡ with_pair a b false (in_cells cs)
+  pub set_removed : Rising cs → StandsAt cs (a * limit + b) i → in_cells (remove cs i) ≡ with_pair a b false (in_cells cs)
   set_removed up f =
       changed cs (remove cs i) a b false ha hb
-      (ap (holds (remove cs i)) (sym (f.is ∙ e)) ∙ holds_removed_here cs i f.within (λ c d. c < d) (λ x h. omega arith) up)
-      (holds_removed_other cs i (a * limit + b) f.within (f.is ∙ e))
+      (ap (holds (remove cs i)) (sym f.is) ∙ holds_removed_here cs i f.within (λ c d. c < d) (λ x h. omega arith) up)
+      (holds_removed_other cs i (a * limit + b) f.within f.is)
 
-  pub count_inserted : FitsAt cs k i → count (in_cells (insert cs i k)) ≡ count (in_cells cs) + 1
+  pub count_inserted : FitsAt cs (a * limit + b) i → count (in_cells (insert cs i (a * limit + b))) ≡ count (in_cells cs) + 1
   count_inserted f =
-      ap count (set_inserted f)
-      ∙ count_with (in_cells cs) a b ha hb (in_cells_at cs a b false ha hb (ap (holds cs) (sym e) ∙ not_held cs k i f))
+      ap count (set_inserted f.within)
+      ∙ count_with (in_cells cs) a b ha hb (in_cells_at cs a b false ha hb (not_held cs (a * limit + b) i f))
 
-  pub count_removed : Rising cs → StandsAt cs k i → count (in_cells cs) ≡ count (in_cells (remove cs i)) + 1
+  pub count_removed : Rising cs → StandsAt cs (a * limit + b) i → count (in_cells cs) ≡ count (in_cells (remove cs i)) + 1
   count_removed up f =
-      count_without (in_cells cs) a b ha hb (in_cells_at cs a b true ha hb (holds_some cs (a * limit + b) i f.within (f.is ∙ e)))
+      count_without (in_cells cs) a b ha hb (in_cells_at cs a b true ha hb (holds_some cs (a * limit + b) i f.within f.is))
       ∙ ap (λ h. count h + 1) (sym (set_removed up f))
 
 pub no_cells : in_cells [] ≡ no_pairs

@@ -1,5 +1,5 @@
 -- Pairs of numbers below 512 as rising numbers, its cells: (x, y) as 512 x + y.
-use Rattle.std.specs.Prelude.{◌≡◌, ℕ, ◌+◌, ◌*◌, ◌<◌, ◌&&◌, List, length, Result, MatchResult, nat_lt, slice_index_or}
+use Rattle.std.specs.Prelude.{◌≡◌, ℕ, ◌+◌, ◌*◌, ◌<◌, ◌≤◌, ◌&&◌, List, length, Result, MatchResult, nat_lt, slice_index_or}
 use Rattle.needs.specs.Pairs.{Pairs, limit}
 use Rattle.ordered.specs.Order.{holds, Each, Ordered, Parted}
 
@@ -13,6 +13,10 @@ Rising cs = Ordered (λ c d. c < d) cs
 -- each cell stands for a pair
 abbrev pub Small : List ℕ → Type 0
 Small cs = Each (λ c. c < limit * limit) cs
+
+-- i cells lie below k
+abbrev pub Lower : List ℕ → ℕ → ℕ → Type 0
+Lower cs k i = Parted (λ c. c < k) (λ c. k ≤ c) cs i
 
 -- k is no cell, and would stand at i
 abbrev pub FitsAt : List ℕ → ℕ → ℕ → Type 0

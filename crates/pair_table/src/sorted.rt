@@ -1,43 +1,118 @@
 // Pairs of numbers below 512 in rising order. A pair (x, y) is kept as the number 512 x + y, so that
 // the pairs of one x stand together, and rise by y.
-ghost use Rattle.std.specs.Prelude.{◌≡◌, ◌+◌, ◌*◌, ◌&&◌, if◌then◌else◌, nat_lt, length, is_ok};
+ghost use Rattle.std.specs.Prelude.{◌≡◌, ◌+◌, ◌*◌, ◌<◌, ◌≤◌, true, false, length, take, is_ok, nat_le};
 ghost use Rattle.std.proofs.Common.{rules};
-ghost use Rattle.needs.specs.Pairs.{limit, count};
+ghost use Rattle.needs.specs.Pairs.{limit, count, with_pair, Next};
 ghost use Rattle.ordered.specs.Order.{holds};
-ghost use Rattle.pair_table.specs.Cells.{Rising, Small, Found, in_cells};
+ghost use Rattle.pair_table.specs.Cells.{Rising, Small, Lower, FitsAt, StandsAt, Found, in_cells};
 
-use arrayvec::ArrayVec;
 use needs::{LIMIT, PairSet};
+use ordered::{shift_down, shift_up};
 use refusal::StoreFault;
 
 const PLACES: usize = 4096;
 
+// An array and how many of its cells are in use, and no `ArrayVec`: emptying one of those writes
+// over every cell in use.
 #[derive(Drop)]
 pub struct SortedPairs {
-    cells: ArrayVec<u32, PLACES>,
-    ghost rising: { Rising cells.items },
-    ghost small: { Small cells.items },
-    ghost counted: { count (in_cells cells.items) ≡ length cells.items },
+    cells: [u32; PLACES],
+    len: usize,
+    ghost room: { (len ≤ 4096) × (length cells ≡ 4096) },
+    ghost rising: { Rising (take len cells) },
+    ghost small: { Small (take len cells) },
+    ghost counted: { count (in_cells (take len cells)) ≡ len },
 }
 
-// The number that stands for (x, y); none where one of the two is too large to be in a pair.
-fn cell_of(x: usize, y: usize) -> Option<u32>
-    ensures { result ≡ (if nat_lt x limit && nat_lt y limit then Some (x * limit + y) else None) }
+// The number that stands for (x, y).
+fn cell_of(x: usize, y: usize) -> u32
+    requires { (x < limit) × (y < limit) }
+    ensures { result ≡ x * limit + y }
 {
-    if x < LIMIT && y < LIMIT {
-        Some((x * LIMIT + y) as u32)
-    } else {
-        None
-    }
+    (x * LIMIT + y) as u32
 }
 
 impl SortedPairs {
+    ghost use Rattle.pair_table.specs.Sorted.{used, pairs};
+
+    fn is_full(&self) -> bool
+        ensures { result ≡ nat_le 4096 (count (pairs self.now)) }
+    {
+        self.len >= PLACES
+    }
+
+    // How many cells lie below `cell`.
+    fn rank(&self, cell: u32) -> usize
+        ensures { Lower (used self.now) cell result }
+    {
+        let mut low = 0;
+        let mut high = self.len;
+        while low < high {
+            let middle = low + (high - low) / 2;
+            if self.cells[middle] < cell {
+                low = middle + 1;
+            } else {
+                high = middle;
+            }
+        }
+        low
+    }
+
     // Where the cell stands, or would stand.
     fn find(&self, cell: u32) -> Result<usize, usize>
-        ensures place { Found self.now.cells.items cell result }
-        ensures test { is_ok result ≡ holds self.now.cells.items cell }
+        ensures place { Found (used self.now) cell result }
+        ensures test { is_ok result ≡ holds (used self.now) cell }
     {
-        self.cells.as_slice().binary_search(&cell)
+        let at = self.rank(cell);
+        if at < self.len && self.cells[at] == cell {
+            Ok(at)
+        } else {
+            Err(at)
+        }
+    }
+
+    // Puts (x, y) in where it would stand.
+    fn put_at(&mut self, at: usize, x: usize, y: usize)
+        requires low { (x < limit) × (y < limit) }
+        requires room { count (pairs self.old) < 4096 }
+        requires place { FitsAt (used self.old) (x * limit + y) «at» }
+        ensures set { pairs self.new ≡ with_pair x y true (pairs self.old) }
+    {
+        let len = self.len;
+        let cells = &mut self.cells[..];
+        shift_up(&mut cells[at..len + 1], cell_of(x, y));
+        self.len = len + 1;
+    }
+
+    // Takes (x, y) out where it stands.
+    fn take_at(&mut self, at: usize, x: usize, y: usize)
+        requires low { (x < limit) × (y < limit) }
+        requires place { StandsAt (used self.old) (x * limit + y) «at» }
+        ensures set { pairs self.new ≡ with_pair x y false (pairs self.old) }
+    {
+        let len = self.len;
+        let cells = &mut self.cells[..];
+        shift_down(&mut cells[at..len]);
+        self.len = len - 1;
+    }
+
+    // The least y from k on with (x, y) in the set.
+    fn next_of(&self, x: usize, k: usize) -> Option<usize>
+        ensures { Next (λ y. pairs self.now x y) k result }
+    {
+        if x >= LIMIT || k >= LIMIT {
+            return None;
+        }
+        let at = self.rank(cell_of(x, k));
+        if at >= self.len {
+            return None;
+        }
+        let cell = self.cells[at] as usize;
+        if cell / LIMIT == x {
+            Some(cell % LIMIT)
+        } else {
+            None
+        }
     }
 }
 
@@ -55,43 +130,46 @@ impl PairSet for SortedPairs {
     #[tactic(auto, using(crate::proofs::Sets::count_no_cells))]
     fn empty() -> Self {
         SortedPairs {
-            cells: ArrayVec::new(),
+            cells: [0; PLACES],
+            len: 0,
         }
     }
 
     fn insert(&mut self, x: usize, y: usize) -> Result<(), StoreFault> {
-        let cell = cell_of(x, y).ok_or(StoreFault::TooLarge)?;
-        let Err(at) = self.find(cell) else {
+        if x >= LIMIT || y >= LIMIT {
+            return Err(StoreFault::TooLarge);
+        }
+        let Err(at) = self.find(cell_of(x, y)) else {
             return Err(StoreFault::Present);
         };
-        if self.cells.is_full() {
+        if self.is_full() {
             return Err(StoreFault::Full);
         }
-        self.cells.insert(at, cell);
+        self.put_at(at, x, y);
         Ok(())
     }
 
     fn remove(&mut self, x: usize, y: usize) -> Result<(), StoreFault> {
-        let cell = cell_of(x, y).ok_or(StoreFault::Absent)?;
-        let at = self.find(cell).map_err(|_| StoreFault::Absent)?;
-        self.cells.remove(at);
+        if x >= LIMIT || y >= LIMIT {
+            return Err(StoreFault::Absent);
+        }
+        let Ok(at) = self.find(cell_of(x, y)) else {
+            return Err(StoreFault::Absent);
+        };
+        self.take_at(at, x, y);
         Ok(())
     }
 
     #[tactic(auto, using(crate::proofs::Sets::count_no_cells))]
     fn clear(&mut self) {
-        self.cells.clear();
+        self.len = 0;
     }
 
     fn contains(&self, x: usize, y: usize) -> bool {
-        cell_of(x, y).is_some_and(|cell| self.find(cell).is_ok())
+        x < LIMIT && y < LIMIT && self.find(cell_of(x, y)).is_ok()
     }
 
-    // The first cell from (x, k) on, where it is one of row x.
     fn next(&self, x: usize, k: usize) -> Option<usize> {
-        let cell = cell_of(x, k)?;
-        let (Ok(at) | Err(at)) = self.find(cell);
-        let next = *self.cells.as_slice().get(at)? as usize;
-        (next / LIMIT == x).then_some(next % LIMIT)
+        self.next_of(x, k)
     }
 }
