@@ -1,9 +1,9 @@
 -- How many pairs a set has: one more, one less, none, room for one, and as many with the pairs turned round.
-use Rattle.std.proofs.Common.{◌≡◌, ℕ, zero, suc, ◌+◌, ◌*◌, ◌<◌, ◌≤◌, Bool, true, false, sym, refl, ap, ◌∙◌, ⊎_elim, suc-mul, arith, lit<}
+use Rattle.std.proofs.Common.{◌≡◌, ℕ, zero, suc, ◌+◌, ◌*◌, ◌<◌, ◌≤◌, Bool, true, false, Ok, sym, refl, ap, ◌∙◌, ⊎_elim, suc-mul, arith, lit<}
 use Rattle.std.proofs.lemmas.Grind.{common_steps}
 use mathlib.Core.Path.{fun_ext}
 use Rattle.std.proofs.lemmas.Bool.{cases_eq}
-use Rattle.needs.specs.Pairs.{Pairs, with_pair, sum_below, one_if, count, no_pairs, limit, Mirrors}
+use Rattle.needs.specs.Pairs.{Pairs, with_pair, sum_below, one_if, count, no_pairs, put, limit, Mirrors}
 
 sum_same : (n : ℕ) (f g : ℕ → ℕ) → ((k : ℕ) → k < n → f k ≡ g k) → sum_below n f ≡ sum_below n g
 sum_same zero f g h = refl
@@ -61,6 +61,10 @@ pub count_without : (h : Pairs) (a b : ℕ) → a < limit → b < limit → h a 
 count_without h a b la lb e =
     count_one (with_pair a b false h) h a b la lb (grind (arith, common_steps)) e
     (λ x y n. grind (arith, common_steps, n)) (λ y n. grind (arith, common_steps, n))
+
+-- a pair that is put in
+pub put_granted : (h : Pairs) (n a b : ℕ) → a < limit → b < limit → h a b ≡ false → count h < n → put h n a b ≡ Ok (with_pair a b true h)
+put_granted h n a b la lb e f = grind (arith, common_steps)
 
 sum_none : (n : ℕ) (f : ℕ → ℕ) → ((k : ℕ) → f k ≡ 0) → sum_below n f ≡ 0
 sum_none zero f h = refl
