@@ -34,7 +34,7 @@ module _ (d s t : List ℕ) (i : ℕ) (h : i ≤ length d) where
       ∙ ap (λ w. take i d ++ w) (sym (append_assoc s t (drop (i + length (s ++ t)) d)))
 
 -- one text after another
-put_then : {d e f s t : List ℕ} {i j k : ℕ} → Put d i e j s → Put e j f k t → Put d i f k (s ++ t)
+pub put_then : {d e f s t : List ℕ} {i j k : ℕ} → Put d i e j s → Put e j f k t → Put d i f k (s ++ t)
 put_then {d} {e} {f} {s} {t} {i} {j} {k} a b =
     let l = length-append s t in
     record {
