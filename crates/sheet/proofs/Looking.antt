@@ -24,7 +24,7 @@ number_is i (t ∷ ts) n zero j s h e f = grind (arith, bytes_eq-Decides t.name 
 number_is i (t ∷ ts) n (suc u) j s h e f =
     grind (arith, bytes_eq-Decides t.name n, f 0, number_is (i + 1) ts n u j (omega arith) (omega arith) e (λ v l. f (suc v) (omega arith)))
 
-pub number_none : (i : ℕ) (ts : List Entry) (n : List ℕ) → ((u : ℕ) → u < length ts → (task ts u).name ≡ n → ⊥) → number_from i ts n ≡ None
+number_none : (i : ℕ) (ts : List Entry) (n : List ℕ) → ((u : ℕ) → u < length ts → (task ts u).name ≡ n → ⊥) → number_from i ts n ≡ None
 number_none i [] n f = refl
 number_none i (t ∷ ts) n f =
     grind (arith, bytes_eq-Decides t.name n, f 0, number_none (i + 1) ts n (λ u l. f (suc u) (omega arith)))
@@ -43,7 +43,7 @@ before_chains s t u e f = grind (arith, common_steps, nat_list_cmp_total.trans s
 
 module _ (ts : List Entry) (ns : List ℕ) (x : Indexes ts ns) where
   -- two tasks of one name are one
-  pub distinct : (u v : ℕ) → u < length ts → v < length ts → (task ts u).name ≡ (task ts v).name → u ≡ v
+  distinct : (u v : ℕ) → u < length ts → v < length ts → (task ts u).name ≡ (task ts v).name → u ≡ v
   distinct u v hu hv e =
       let p = held_at ns u (x.whole u hu) in
       let q = held_at ns v (x.whole v hv) in

@@ -1,4 +1,4 @@
-use Rattle.std.proofs.Common.{rules, arith}
+use Rattle.std.proofs.Common.{arith}
 use Rattle.ordered.proofs.Halving.{narrowed_done}
 use Rattle.sheet.specs.Tables.{entries, numbers}
 use Rattle.sheet.proofs.Looking.{turn_less, turn_greater, turn_equal, middle_task, number_gap}
