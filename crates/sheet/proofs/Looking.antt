@@ -1,9 +1,10 @@
 -- A name looked up among the names of the tasks.
-use Rattle.std.proofs.Common.{◌≡◌, ℕ, zero, suc, ◌+◌, ◌<◌, true, List, [], ◌∷◌, length, get_or, Some, None, Less, Equal, Greater, refl, ap, arith}
+use Rattle.std.proofs.Common.{◌≡◌, ℕ, zero, suc, ◌+◌, ◌<◌, true, List, [], ◌∷◌, length, get_or, Some, None, Ordering, Less, Equal, Greater, sym, refl, ap, ◌∙◌, arith}
 use Rattle.std.specs.Cmp.{IsStrictWeakOrder}
 use Rattle.std.specs.Ordering.{is_lt}
 use Rattle.std.proofs.lemmas.Cmp.{nat_list_cmp_total}
 use Rattle.std.proofs.lemmas.Grind.{common_steps}
+use Rattle.std.proofs.lemmas.List.{length-map, get_or-map}
 use Rattle.std.proofs.lemmas.List.Sorted.{ranks_by}
 use Rattle.std.proofs.lemmas.Map.Lookups.{exact_bytes}
 use Rattle.std.proofs.lemmas.Slice.Eq.{bytes_eq-Decides}
@@ -12,8 +13,9 @@ use Rattle.ordered.proofs.Edits.{held_at}
 use Rattle.ordered.proofs.Halving.{Narrowed, middle, narrowed_up, narrowed_down}
 use Rattle.sheet.specs.Entries.{Entry, task, number_from, number_of}
 use Rattle.sheet.specs.NameOrder.{name_order, name_before}
-use Rattle.sheet.specs.Spelling.{Indexes, NamedBefore}
+use Rattle.sheet.specs.Spelling.{entry_of, entries_of, Indexes, NamedBefore}
 use Rattle.sheet.specs.Tables.{Earlier, Later}
+use Rattle.sheet.specs.declared.task.Task.{Task}
 
 -- ---- the first task of a name
 
@@ -28,6 +30,20 @@ number_none : (i : ℕ) (ts : List Entry) (n : List ℕ) → ((u : ℕ) → u < 
 number_none i [] n f = refl
 number_none i (t ∷ ts) n f =
     grind (arith, bytes_eq-Decides t.name n, f 0, number_none (i + 1) ts n (λ u l. f (suc u) (omega arith)))
+
+-- ---- the tasks in memory
+
+entry_at : (ts : List Task) (u : ℕ) (d : Task) → u < length (entries_of ts) → task (entries_of ts) u ≡ entry_of (get_or ts u d)
+entry_at ts u d h = grind (arith, get_or-map, length-map)
+
+-- what was told of the name in place k of the index is told of the name of the task that stands there
+pub told_of_task : (ts is : List Task) (ns js : List ℕ) (k : ℕ) (d : Task) (s n : List ℕ) (o v : Ordering) → get_or ns k 0 < length (entries_of ts)
+    → js ≡ ns → is ≡ ts → s ≡ (get_or is (get_or js k 0) d).name.items → o ≡ name_order s n → o ≡ v
+    → name_order (task (entries_of ts) (get_or ns k 0)).name n ≡ v
+told_of_task ts is ns js k d s n o v h a b e f g =
+    let m = ap (λ x. name_order x.name n) (entry_at ts (get_or ns k 0) d h) in
+    let q : s ≡ (get_or ts (get_or ns k 0) d).name.items = rw (a, b) at e in
+    m ∙ ap (λ x. name_order x n) (sym q) ∙ sym f ∙ g
 
 -- ---- the order of names, and the search in the index
 

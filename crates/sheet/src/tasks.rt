@@ -52,20 +52,13 @@ impl Tasks {
         while low < high {
             let middle = low + (high - low) / 2;
             let number = self.by_name[middle];
-            match self.spelling(number).cmp(&name) {
+            match self.tasks[number as usize].name.as_slice().cmp(&name) {
                 Ordering::Less => low = middle + 1,
                 Ordering::Equal => return Ok(number as usize),
                 Ordering::Greater => high = middle,
             }
         }
         Err(low)
-    }
-
-    // The name of a task; past the last, an empty one, for which the search never asks.
-    fn spelling(&self, number: u16) -> &[u8]
-        ensures { result.now ≡ (task (entries self.now) number).name }
-    {
-        self.name(number as usize).unwrap_or(&[])
     }
 
     pub fn name(&self, number: usize) -> Option<&[u8]>
