@@ -1,6 +1,5 @@
 // Lists kept in order in fixed memory: one element put in or taken out, the others moved by one
-// place. Two functions, and not one told the direction, since each is one call of the library. They
-// are for callers' own lists: no crate here calls them.
+// place. Two functions, and not one told the direction, since each is one call of the library.
 #![tactic(auto)]
 
 ghost use Rattle.std.specs.Prelude.{◌≡◌, ◌-◌, ◌∷◌, ◌++◌, length, take, drop};
