@@ -41,7 +41,8 @@ impl SortedPairs {
         self.len >= PLACES
     }
 
-    // How many cells lie below `cell`.
+    // How many cells lie below `cell`. By hand: the library's search takes up to twice the time upon few
+    // cells.
     fn rank(&self, cell: u32) -> usize
         ensures { Lower (used self.now) cell result }
     {
