@@ -1,10 +1,10 @@
 // Pairs of numbers below 512 in rising order. A pair (x, y) is kept as the number 512 x + y, so that
 // the pairs of one x stand together, and rise by y.
-ghost use Rattle.std.specs.Prelude.{◌≡◌, ◌+◌, ◌*◌, ◌<◌, ◌≤◌, true, false, length, take, is_ok, nat_le};
+ghost use Rattle.std.specs.Prelude.{◌≡◌, ◌+◌, ◌*◌, ◌/◌, ◌%◌, ◌<◌, ◌≤◌, true, false, length, take, is_ok, nat_le, slice_index_or};
 ghost use Rattle.std.proofs.Common.{rules};
 ghost use Rattle.needs.specs.Pairs.{limit, count, with_pair, Next};
 ghost use Rattle.ordered.specs.Order.{holds};
-ghost use Rattle.pair_table.specs.Cells.{Rising, Small, Lower, FitsAt, StandsAt, Found, in_cells};
+ghost use Rattle.pair_table.specs.Cells.{Rising, Small, Lower, FitsAt, Found, in_cells};
 
 use needs::{LIMIT, PairSet};
 use ordered::{shift_down, shift_up};
@@ -85,11 +85,10 @@ impl SortedPairs {
         self.len = len + 1;
     }
 
-    // Takes (x, y) out where it stands.
-    fn take_at(&mut self, at: usize, x: usize, y: usize)
-        requires low { (x < limit) × (y < limit) }
-        requires place { StandsAt (used self.old) (x * limit + y) «at» }
-        ensures set { pairs self.new ≡ with_pair x y false (pairs self.old) }
+    // Takes out the pair whose cell stands at a place.
+    fn take_at(&mut self, at: usize)
+        requires { «at» < length (used self.old) }
+        ensures { let cell = slice_index_or (used self.old) «at» 0 in pairs self.new ≡ with_pair (cell / limit) (cell % limit) false (pairs self.old) }
     {
         let len = self.len;
         let cells = &mut self.cells[..];
@@ -157,7 +156,7 @@ impl PairSet for SortedPairs {
         let Ok(at) = self.find(cell_of(x, y)) else {
             return Err(StoreFault::Absent);
         };
-        self.take_at(at, x, y);
+        self.take_at(at);
         Ok(())
     }
 
